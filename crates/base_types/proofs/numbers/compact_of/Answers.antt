@@ -1,0 +1,6 @@
+use Rattle.base_types.specs.Codec.{IsBytes-slice, spelled}
+use Rattle.base_types.specs.Fields.{compact_field}
+use Rattle.base_types.proofs.numbers.compact_of.Goals as goal
+
+pub returns-clause-spelled : goal.returns-clause-spelled
+returns-clause-spelled c = spelled compact_field c.args.bytes.now (IsBytes-slice c.args.bytes.now c.type_inv.bytes)

@@ -1,0 +1,6 @@
+use Rattle.base_types.specs.Codec.{IsBytes-slice, spelled}
+use Rattle.base_types.specs.Fields.{length_field}
+use Rattle.base_types.proofs.numbers.length_of.Goals as goal
+
+pub returns-clause-spelled : goal.returns-clause-spelled
+returns-clause-spelled c = spelled length_field c.args.bytes.now (IsBytes-slice c.args.bytes.now c.type_inv.bytes)

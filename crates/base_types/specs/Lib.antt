@@ -1,0 +1,9 @@
+pub mod Bytes
+pub mod Codec
+pub mod Fields
+pub mod Keys
+pub mod OrderedMaps
+pub mod Printed
+pub mod Reading
+pub mod Refusals
+pub mod Statuses

@@ -1,0 +1,25 @@
+//! The values that every other crate speaks of: hashes, outpoints, scripts and coins, the faults of the store,
+//! the settings and statuses of a run, and the forms of numbers in bytes, both ways.
+#![tactic(auto)]
+
+mod coin;
+mod cursor;
+mod fault;
+mod hash;
+mod numbers;
+mod program;
+mod refused;
+mod script;
+mod writing;
+
+pub use coin::{Coin, TxOut};
+pub use cursor::{Cursor, ReadError};
+pub use fault::StoreFault;
+pub use hash::{Hash32, OutPoint, hash_twice};
+pub use program::{Limits, Rules, Salt, Status, Words};
+pub use refused::{BodyRefused, CoinError, CoinRefused, HeaderRefused};
+pub use script::Script;
+pub use writing::{put_compact_size, put_u16, put_u32, put_u64, put_varint};
+
+#[cfg(test)]
+mod tests;

@@ -1,0 +1,46 @@
+use crate::files::RealFiles;
+use crate::streams::{Reading, Writing};
+use io_traits::{Host, Sink, Source};
+use std::fs::File;
+use std::test::Fail;
+
+// A file that is written, and read in pieces by the name that it was given.
+#[test]
+fn files_are_written_and_read(rt: HostRuntime) -> Result<(), Fail> {
+    let mut host = RealFiles::new(&rt);
+    let mut buf = [0; 4];
+    assert!(rt; host.write(b"nothing").is_ok());
+    assert_eq!(rt; host.read_in(&mut buf), Ok(0));
+    assert!(rt; host.open_in("a.dat").is_err());
+    assert!(rt; host.create("a.dat").is_ok());
+    assert!(rt; host.write(b"blo").is_ok());
+    assert!(rt; host.write(b"ck").is_ok());
+    assert!(rt; host.finish().is_ok());
+    assert!(rt; host.finish().is_ok());
+    assert!(rt; host.open_in("a.dat").is_ok());
+    assert_eq!(rt; host.read_in(&mut buf), Ok(4));
+    assert_eq!(rt; buf.as_slice(), b"bloc".as_slice());
+    assert_eq!(rt; host.read_in(&mut buf), Ok(1));
+    assert_eq!(rt; host.read_in(&mut buf), Ok(0));
+    assert!(rt; host.open_in("b.dat").is_err());
+    assert_eq!(rt; host.read_in(&mut buf), Ok(0));
+    assert!(rt; host.create("no/such/folder").is_err());
+    Ok(())
+}
+
+// The streams' adapters over a real file: what is written is read, and a file that can't be read fails.
+#[test]
+fn streams_read_and_write(rt: HostRuntime) -> Result<(), Fail> {
+    let mut buf = [0; 8];
+    let file = File::create(&rt, "c.dat").ok().ok_or("created")?;
+    let mut sink = Writing::new(file);
+    assert!(rt; sink.write(b"reply\n").is_ok());
+    let mut source = Reading::new(File::open(&rt, "c.dat").ok().ok_or("opened")?);
+    assert_eq!(rt; source.read(&mut buf), Ok(6));
+    assert_eq!(rt; source.read(&mut buf), Ok(0));
+    let mut unwritable = Writing::new(File::open(&rt, "c.dat").ok().ok_or("opened")?);
+    assert!(rt; unwritable.write(b"x").is_err());
+    let mut folder = Reading::new(File::open(&rt, ".").ok().ok_or("opened")?);
+    assert!(rt; folder.read(&mut buf).is_err());
+    Ok(())
+}

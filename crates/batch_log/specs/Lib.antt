@@ -1,0 +1,5 @@
+pub mod OpenLog
+pub mod Opening
+pub mod Reading
+pub mod Records
+pub mod RecordLaws

@@ -1,0 +1,4 @@
+mod Amounts
+mod Order
+mod Pushes
+mod Twins

@@ -1,0 +1,7 @@
+use Rattle.std.proofs.Common.{◌≡◌, drop, ◌||◌, ◌==◌, nat_lt, length, not}
+use Rattle.std.specs.List.{list_any, list_all}
+use Rattle.block_codec.specs.Text.{has_witness}
+use Rattle.block_checks.proofs.witness.has_some_witness.Given as goal
+
+abbrev pub invariant-loop-tx : goal.invariant-loop-tx
+invariant-loop-tx l = list_any has_witness (drop l.tx-index l.txs) ≡ list_any has_witness l.txs

@@ -1,0 +1,39 @@
+//! Where a block stands.
+
+ghost use Rattle.std.specs.Prelude.{◌≡◌, true};
+ghost use Rattle.std.specs.FinMap.{contains_key};
+ghost use Rattle.chain_model.specs.BodyRules.{place_below, knows_witnesses as witnesses_known};
+ghost use Rattle.block_checks.specs.Standing.{place_of};
+
+use base_types::{Hash32, Rules};
+use chain_model::TreeView;
+
+/// The height of a block, the median time of its parent in seconds since 1970, and the heights from which four rules
+/// hold.
+#[derive(Clone, Copy, Debug, PartialEq, Eq)]
+pub struct Standing {
+    pub height: u64,
+    pub median: u32,
+    pub rules: Rules,
+}
+
+impl Standing {
+    /// Where a block stands whose parent is in a tree.
+    pub fn below<T: TreeView>(tree: &T, parent: &Hash32) -> Standing
+        requires { contains_key (T.tree tree.now).headers parent.now ≡ true }
+        ensures { place_of result ≡ place_below (T.tree tree.now) parent.now }
+    {
+        Standing {
+            height: u64::from(tree.height(parent).unwrap()) + 1,
+            median: tree.median_time(parent).unwrap(),
+            rules: *tree.rules(),
+        }
+    }
+
+    /// Whether witnesses are known at this height (BIP141).
+    pub fn knows_witnesses(&self) -> bool
+        ensures { result ≡ witnesses_known (place_of self.now) }
+    {
+        u64::from(self.rules.segwit) <= self.height
+    }
+}

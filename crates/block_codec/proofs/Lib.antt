@@ -1,0 +1,6 @@
+mod Fitting
+mod HasText
+mod Laws
+mod Loop
+mod Places
+mod Stacks

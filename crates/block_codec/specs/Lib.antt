@@ -1,0 +1,9 @@
+pub mod Commitment
+pub mod Encoding
+pub mod Examples
+pub mod FrameExamples
+pub mod Frames
+pub mod Merkle
+pub mod Reading
+pub mod Text
+pub mod Weight

@@ -1,0 +1,25 @@
+//! Transactions and blocks: their types, their one text, reading and writing it, and the hashes and sizes that are taken
+//! over it. The definitions of the frames of a block file, of the merkle root and of the witness commitment stand in
+//! `specs`, for the crates that compute them.
+#![tactic(auto)]
+
+mod block;
+mod encoder;
+mod encoding;
+mod fault;
+mod hashing;
+mod reading;
+mod size;
+mod witness;
+mod writing;
+
+pub use block::{Block, Header, Inputs, Outputs, Stack, Tx, TxIn, Txs};
+pub use fault::{BlockError, BlockFault};
+pub use hashing::{block_hash, txid, wtxid};
+pub use reading::read_block;
+pub use size::{stripped_size, total_size, weight};
+pub use witness::{has_witness, is_coinbase};
+pub use writing::write_block;
+
+#[cfg(test)]
+mod tests;

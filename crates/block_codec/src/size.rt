@@ -1,0 +1,34 @@
+//! Sizes of blocks. Each is 2^64 - 1 where it would be above that.
+
+ghost use Rattle.std.specs.Prelude.{◌≡◌, ◌^◌, ◌-◌, min};
+ghost use Rattle.block_codec.specs.Weight.{stripped_size_of, total_size_of, weight_of};
+
+use crate::block::Block;
+use crate::encoder::Counter;
+use crate::encoding::{put_block, put_stripped_block};
+
+/// The bytes of a block with each transaction in the form without witness.
+pub fn stripped_size(block: &Block) -> u64
+    ensures { result ≡ min (stripped_size_of block.now) (2 ^ 64 - 1) }
+{
+    let mut counter = Counter::new();
+    put_stripped_block(&mut counter, block);
+    counter.count()
+}
+
+/// The bytes of a block as it is written.
+pub fn total_size(block: &Block) -> u64
+    ensures { result ≡ min (total_size_of block.now) (2 ^ 64 - 1) }
+{
+    let mut counter = Counter::new();
+    put_block(&mut counter, block);
+    counter.count()
+}
+
+/// The weight of a block (BIP 141): three times its stripped size and its total size.
+pub fn weight(block: &Block) -> u64
+    ensures { result ≡ min (weight_of block.now) (2 ^ 64 - 1) }
+{
+    let stripped = stripped_size(block);
+    stripped.saturating_mul(3).saturating_add(total_size(block))
+}

@@ -1,0 +1,7 @@
+pub mod Apply
+pub mod BodyRules
+pub mod Coins
+pub mod Examples
+pub mod HeaderRules
+pub mod Rules
+pub mod Tree

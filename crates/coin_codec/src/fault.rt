@@ -1,0 +1,24 @@
+//! Why a coin could not be read.
+
+ghost use Rattle.std.specs.Prelude.{◌≡◌};
+ghost use Rattle.coin_codec.specs.declared.fault.CoinFault.TheVariants.{NoMemory};
+
+use base_types::CoinError;
+use std::alloc::AllocError;
+
+/// Why no coin was read.
+#[derive(Clone, Copy, Debug, PartialEq, Eq)]
+pub enum CoinFault {
+    /// No memory was left for the script.
+    NoMemory,
+    /// The bytes are no coin: what is wrong, and its offset.
+    Bad { error: CoinError, at: usize },
+}
+
+impl From<AllocError> for CoinFault {
+    ghost from_gives = { λ _ fault. fault ≡ NoMemory };
+
+    fn from(_error: AllocError) -> CoinFault {
+        CoinFault::NoMemory
+    }
+}

@@ -1,0 +1,54 @@
+//! Writing coins.
+
+ghost use Rattle.std.specs.Prelude.{◌≡◌, ◌≤◌, ◌++◌, length, take, OnOk, OnErr};
+ghost use Rattle.coin_codec.specs.CoinText.{coin_text, CoinFits};
+ghost use Rattle.coin_codec.specs.ScriptForm.{script_form};
+
+use crate::amount::compress;
+use crate::script_form::short_form;
+use base_types::{Coin, put_varint};
+use std::alloc::AllocError;
+
+#[tactic(auto, unfolding(crate::specs::ScriptForm::script_form))]
+fn put_script(out: &mut Vec<u8>, script: &[u8]) -> Result<(), AllocError>
+    requires { length script.now ≤ 10_000 }
+    ensures ok { OnOk result (out.new.items ≡ out.old.items ++ script_form script.now) }
+    ensures err { OnErr result (take (length out.old.items) out.new.items ≡ out.old.items) }
+{
+    match short_form(script) {
+        Some((mark, kept)) => {
+            out.push(mark)?;
+            out.extend_from_slice(kept)
+        }
+        None => {
+            put_varint(out, script.len() as u64 + 6)?;
+            out.extend_from_slice(script)
+        }
+    }
+}
+
+#[tactic(auto, unfolding(crate::specs::CoinText::coin_text))]
+fn put_coin(out: &mut Vec<u8>, coin: &Coin) -> Result<(), AllocError>
+    requires { CoinFits coin.now }
+    ensures ok { OnOk result (out.new.items ≡ out.old.items ++ coin_text coin.now) }
+    ensures err { OnErr result (take (length out.old.items) out.new.items ≡ out.old.items) }
+{
+    put_varint(out, 2 * u64::from(coin.height) + u64::from(coin.coinbase))?;
+    put_varint(out, compress(coin.value))?;
+    put_script(out, coin.script.as_slice())
+}
+
+/// Adds the text of a coin (the form in Bitcoin Core's `coins.h` and `compressor.h`). Where memory runs out nothing is
+/// added.
+pub fn write_coin(out: &mut Vec<u8>, coin: &Coin) -> Result<(), AllocError>
+    requires { CoinFits coin.now }
+    ensures ok { OnOk result (out.new.items ≡ out.old.items ++ coin_text coin.now) }
+    ensures err { OnErr result (out.new.items ≡ out.old.items) }
+{
+    let len = out.len();
+    let written = put_coin(out, coin);
+    if written.is_err() {
+        out.truncate(len);
+    }
+    written
+}

@@ -1,0 +1,116 @@
+-- Laws of an index and its pool.
+use Rattle.std.proofs.Common.{◌≡◌, ◌≢◌, ◌⊎◌, inl, inr, ℕ, zero, suc, cond, List, [], ◌∷◌, map, length, get_or, Option, Some, None, refl, sym, ap, ◌∙◌, subst}
+use Rattle.std.specs.Ordering.{nat_cmp}
+use Rattle.std.specs.FinMap.{FinMap, get, empty, insert, remove, get-empty, get-insert, get-remove, same_map}
+use Rattle.slot_pool.specs.Slots.{first_or, IsIn}
+use Rattle.base_types.specs.Keys.{outpoint_cmp, outpoint_cmp_total, outpoint_cmp-IsAntisymmetric, outpoint_ties, tied_same, tied_not, cases_key}
+use Rattle.base_types.specs.declared.hash.OutPoint.{OutPoint}
+use Rattle.base_types.specs.declared.program.Salt.{Salt}
+use Rattle.coin_index.specs.declared.index.Index.{Index}
+use Rattle.coin_index.specs.Hash.{bucket_of}
+use Rattle.coin_index.specs.Index.{IsNew, AreChained, IsIndex}
+
+-- maps from outpoints
+
+pub same_key_or_not : (x y : OutPoint) → (x ≡ y) ⊎ (x ≡ y → ⊥)
+same_key_or_not = cases_key outpoint_cmp outpoint_ties outpoint_cmp-IsAntisymmetric
+
+module _ (found : FinMap outpoint_cmp ℕ) (k : OutPoint) where
+  pub found_here : (s : ℕ) → get (insert found k s) k ≡ Some s
+  found_here s = get-insert outpoint_cmp_total found k s k ∙ ap (λ b. cond b (Some s) (get found k)) (tied_same outpoint_cmp outpoint_ties outpoint_cmp-IsAntisymmetric k)
+
+  pub found_off : (s : ℕ) (q : OutPoint) → q ≢ k → get (insert found k s) q ≡ get found q
+  found_off s q ne = get-insert outpoint_cmp_total found k s q ∙ ap (λ b. cond b (Some s) (get found q)) (tied_not outpoint_cmp outpoint_ties outpoint_cmp-IsAntisymmetric q k ne)
+
+  pub gone_here : get (remove found k) k ≡ None
+  gone_here = get-remove outpoint_cmp_total found k k ∙ ap (λ b. cond b None (get found k)) (tied_same outpoint_cmp outpoint_ties outpoint_cmp-IsAntisymmetric k)
+
+  pub gone_off : (q : OutPoint) → q ≢ k → get (remove found k) q ≡ get found q
+  gone_off q ne = get-remove outpoint_cmp_total found k q ∙ ap (λ b. cond b None (get found q)) (tied_not outpoint_cmp outpoint_ties outpoint_cmp-IsAntisymmetric q k ne)
+
+pub same_found : (f g : FinMap outpoint_cmp ℕ) → ((k : OutPoint) → get f k ≡ get g k) → f ≡ g
+same_found = same_map outpoint_cmp_total outpoint_cmp-IsAntisymmetric
+
+-- an index and its pool
+
+-- an index without buckets finds nothing
+pub new_index : {T : Type 0} (key : T → OutPoint) (chain : T → Option ℕ) (m : FinMap nat_cmp T) (i : Index) (salt : Salt) → IsNew i salt → IsIndex key chain m i empty
+new_index key chain m i salt h = record {
+  chains = [];
+  heads = h.0;
+  chained = λ b. tt;
+  distinct = λ b. tt;
+  listed = λ b s is. absurd is;
+  present = λ k s e. let f : None ≡ Some s = sym (get-empty outpoint_cmp k) ∙ e in cc;
+}
+
+module _ {T : Type 0} (key : T → OutPoint) (chain : T → Option ℕ) where
+  -- an index stays where the slots that it finds keep their keys and links, whatever else changes in the pool
+  module _ (m n : FinMap nat_cmp T) (i : Index) (found : FinMap outpoint_cmp ℕ) (h : IsIndex key chain m i found)
+      (same : (k : OutPoint) (s : ℕ) (x : T) → get found k ≡ Some s → get m s ≡ Some x → (y : T) × (get n s ≡ Some y) × (key y ≡ key x) × (chain y ≡ chain x)) where
+    value_kept : (b s : ℕ) (x : T) → IsIn s (get_or h.chains b []) → get m s ≡ Some x → (y : T) × (get n s ≡ Some y) × (key y ≡ key x) × (chain y ≡ chain x)
+    value_kept b s x is e = same (key (h.listed b s is).0) s x (h.listed b s is).3 e
+
+    chained_kept : (b : ℕ) (ss : List ℕ) → ((s : ℕ) → IsIn s ss → IsIn s (get_or h.chains b [])) → AreChained key chain m ss → AreChained key chain n ss
+    chained_kept b [] within c = tt
+    chained_kept b (s ∷ ss) within c = let y = value_kept b s c.0 (within s (inl refl)) c.1 in (y.0, y.1, y.3 ∙ c.2, chained_kept b ss (λ t is. within t (inr is)) c.3)
+
+    pub index_kept : IsIndex key chain n i found
+    index_kept = record {
+      chains = h.chains;
+      heads = h.heads;
+      chained = λ b. chained_kept b (get_or h.chains b []) (λ s is. is) (h.chained b);
+      distinct = h.distinct;
+      listed = λ b s is. let l = h.listed b s is in let y = value_kept b s l.0 is l.1 in (y.0, y.1, ap (bucket_of i.salt (length h.chains)) y.2 ∙ l.2, ap (get found) y.2 ∙ l.3);
+      present = λ k s e. let p = h.present k s e in let y = same k s p.1.0 e p.1.1 in (p.0, (y.0, y.1, y.2 ∙ p.1.2));
+    }
+
+  -- what is found holds a value with that key
+  pub found_held : (m : FinMap nat_cmp T) (i : Index) (found : FinMap outpoint_cmp ℕ) (k : OutPoint) (s : ℕ) → IsIndex key chain m i found → get found k ≡ Some s → (x : T) × (get m s ≡ Some x) × (key x ≡ k)
+  found_held m i found k s h e = (h.present k s e).1
+
+  chains_once : (m : FinMap nat_cmp T) (ss ts : List ℕ) → AreChained key chain m ss → AreChained key chain m ts → first_or None ss ≡ first_or None ts → ss ≡ ts
+  chains_once m [] [] h k e = refl
+  chains_once m [] (t ∷ ts) h k e = cc
+  chains_once m (s ∷ ss) [] h k e = cc
+  chains_once m (s ∷ ss) (t ∷ ts) h k e =
+      let one : s ≡ t = cc e in let x : h.0 ≡ k.0 = cc (h.1, k.1, one) in
+      let next : first_or None ss ≡ first_or None ts = sym h.2 ∙ ap chain x ∙ k.2 in
+      λ i. one i ∷ chains_once m ss ts h.3 k.3 next i
+
+  pub same_chain : (m : FinMap nat_cmp T) (ss ts : List ℕ) → AreChained key chain m ss → AreChained key chain m ts → first_or None ss ≡ first_or None ts → ss ≡ ts
+  same_chain = chains_once
+
+pub get_or-map_first : (css : List (List ℕ)) (b : ℕ) → get_or (map (first_or None) css) b None ≡ first_or None (get_or css b [])
+get_or-map_first [] b = refl
+get_or-map_first (c ∷ css) zero = refl
+get_or-map_first (c ∷ css) (suc b) = get_or-map_first css b
+
+pub length-map_first : (css : List (List ℕ)) → length (map (first_or None) css) ≡ length css
+length-map_first [] = refl
+length-map_first (c ∷ css) = ap suc (length-map_first css)
+
+module _ {T : Type 0} (key : T → OutPoint) (chain : T → Option ℕ) (m : FinMap nat_cmp T) (i : Index) where
+  pub chains_count : (f : FinMap outpoint_cmp ℕ) (h : IsIndex key chain m i f) → length h.chains ≡ length i.buckets.items
+  chains_count f h = sym (ap length h.heads ∙ length-map_first h.chains)
+
+  -- two maps that an index finds have one chain in each bucket
+  pub bucket_same : (f g : FinMap outpoint_cmp ℕ) (h : IsIndex key chain m i f) (h' : IsIndex key chain m i g) (b : ℕ) → get_or h'.chains b [] ≡ get_or h.chains b []
+  bucket_same f g h h' b =
+      same_chain key chain m _ _ (h'.chained b) (h.chained b) (sym (get_or-map_first h'.chains b) ∙ ap (λ l. get_or l b None) (sym h'.heads ∙ h.heads) ∙ get_or-map_first h.chains b)
+
+  found_in : (f g : FinMap outpoint_cmp ℕ) → IsIndex key chain m i f → IsIndex key chain m i g → (k : OutPoint) (s : ℕ) → get f k ≡ Some s → get g k ≡ Some s
+  found_in f g h h' k s e =
+      let p = h.present k s e in let b = bucket_of i.salt (length h.chains) k in
+      let l = h'.listed b s (subst (IsIn s) (sym (bucket_same f g h h' b)) p.0) in let same : l.0 ≡ p.1.0 = cc (l.1, p.1.1) in
+      sym (ap (get g) (ap key same ∙ p.1.2)) ∙ l.3
+
+  -- an index over a pool finds one map
+  pub index_once : (f g : FinMap outpoint_cmp ℕ) → IsIndex key chain m i f → IsIndex key chain m i g → f ≡ g
+  index_once f g h h' = same_found f g (λ k. at k (get f k) refl) where
+    at : (k : OutPoint) (o : Option ℕ) → get f k ≡ o → get f k ≡ get g k
+    at k (Some s) e = e ∙ sym (found_in f g h h' k s e)
+    at k None e = none (get g k) refl where
+      none : (p : Option ℕ) → get g k ≡ p → get f k ≡ get g k
+      none None d = e ∙ sym d
+      none (Some s) d = let c : None ≡ Some s = sym e ∙ found_in g f h' h k s d in cc

@@ -1,0 +1,4 @@
+pub mod Hash
+pub mod Index
+pub mod IndexLaws
+pub mod Rehash

@@ -1,0 +1,12 @@
+pub mod Crash
+pub mod Disk
+pub mod Fuse
+pub mod FuseDisk
+pub mod Image
+pub mod MemDisk
+pub mod Moments
+pub mod Replay
+pub mod Replayed
+pub mod Sound
+pub mod Untold
+pub mod UntoldDisk

@@ -1,0 +1,18 @@
+-- A `&` to the cells reaches each value.
+use mathlib.Core.List.{[], ◌++◌}
+use base.Fml.{Incl-trans}
+use contract.BorrowLft.{meet_⊑_left}
+use denote.RattleType.{RattleType}
+use denote.Param.Laws.{Laws}
+use denote.Param.Shared.{copy_shared}
+use denote.Struct.Field.{RawPtr-field}
+use denote.Struct.Laws.{RawPtr-copy}
+use denote.Struct.Lending.{of_Lends}
+use Rattle.slot_pool.specs.contracts.cells.Cells as C
+use Rattle.slot_pool.proofs.cells.Cells.TheLaw.Statement.{statement}
+use Rattle.slot_pool.proofs.Sharing.{cells_lent-laws, Lends-cells}
+
+pub shares : (R : RattleType) (L : Laws R) → statement R L
+shares R L = of_Lends (C.struct R) (C.the_codes R.Denot R.coded) (C.the_heap R) (C.the_lent R)
+    (λ d p. cells_lent-laws R L.shr_laws d.start d.held) (copy_shared RawPtr-field RawPtr-copy, tt)
+    (λ M 𝓤 𝓛 d p. Lends-cells 𝓛 R L (C.the_row R).lives (Incl-trans (meet_⊑_left (R.lives ++ []) _) (meet_⊑_left R.lives [])) d.start d.held)

@@ -1,0 +1,12 @@
+pub mod CellsLends
+pub mod ChangeLaws
+pub mod Changes
+pub mod Chunk
+pub mod ChunkLends
+pub mod Held
+pub mod Layout
+pub mod Ownership
+pub mod Pool
+pub mod PoolLends
+pub mod SlotLaws
+pub mod Slots

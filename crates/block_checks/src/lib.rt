@@ -14,3 +14,6 @@ mod witness;
 
 pub use body::check_body;
 pub use fault::CheckFault;
+
+#[cfg(test)]
+mod tests;

@@ -3,8 +3,8 @@ use Rattle.std.proofs.Common.{◌≡◌, ℕ, ◌-◌, ◌≤◌, List, [], ◌�
 use Rattle.std.specs.Prelude.{Option, Some, Result, Ok, nat_le, true, replicate}
 use Rattle.std.proofs.lemmas.Bool.Decides.{nat_tests}
 use Rattle.std.proofs.lemmas.List.{drop_all}
-use Rattle.disk_model.specs.Disk.{Image, At, Torn, Stays, Moves, Leaves, Quiet, Only, written}
-use Rattle.disk_model.specs.Moments.{IsSinceEarlier, SoFar, so_far_begins, so_far_steps, so_far_stays, so_far_durable, so_far_quiet}
+use Rattle.disk_model.specs.Disk.{Image, At, Torn, Stays, Moves, Quiet, Only, written}
+use Rattle.disk_model.specs.Moments.{IsSinceEarlier, SoFar, so_far_begins, so_far_steps, so_far_stays, so_far_durable}
 use Rattle.batch_log.specs.OpenLog.{OpenLog, Stands}
 use Rattle.batch_log.specs.Opening.{IsWholly}
 use Rattle.batch_log.specs.RecordLaws.{log_closed}

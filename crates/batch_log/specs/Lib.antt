@@ -1,5 +1,6 @@
 pub mod OpenLog
 pub mod Opening
+pub mod OtherLogs
 pub mod Reading
-pub mod Records
 pub mod RecordLaws
+pub mod Records

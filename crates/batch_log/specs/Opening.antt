@@ -1,5 +1,5 @@
 -- What is read of a log as it is opened.
-use Rattle.std.specs.Prelude.{◌≡◌, ◌≢◌, ⊤, ℕ, ◌+◌, ◌<◌, ◌≤◌, List, ◌∷◌, length, take, Err}
+use Rattle.std.specs.Prelude.{◌≡◌, ◌≢◌, ⊤, ℕ, ◌<◌, ◌≤◌, List, ◌∷◌, length, take, Err}
 use Rattle.std.specs.Int.{to_le_bytes, w32}
 use Rattle.disk_model.specs.Disk.{Rose}
 use Rattle.base_types.specs.declared.fault.StoreFault.{StoreFault}

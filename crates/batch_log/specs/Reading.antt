@@ -1,6 +1,6 @@
 -- What calls read of a file, and why one may fail.
 use Rattle.std.specs.Prelude.{◌≡◌, ◌≢◌, ⊤, ℕ, ◌+◌, ◌≤◌, Option, Some, None, option_map}
-use Rattle.std.proofs.Common.{arith, ap, sym, ◌∙◌, refl}
+use Rattle.std.proofs.Common.{arith, ap, ◌∙◌}
 use Rattle.disk_model.specs.Disk.{Rose, changed_at}
 use Rattle.disk_model.specs.Moments.{changed_here, changed_else}
 use Rattle.base_types.specs.declared.fault.StoreFault.{StoreFault}

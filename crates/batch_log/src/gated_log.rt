@@ -1,9 +1,9 @@
 //! The log itself.
 
 ghost use Rattle.std.specs.Prelude.{◌≡◌, ◌≢◌, ◌⊎◌, ◌+◌, ◌-◌, ◌*◌, ◌^◌, ◌≤◌, ◌<◌, ◌↔◌, ℕ, List, [], ◌∷◌, ◌++◌, length, take, drop, slice_get, Contains, Some, IsTrue, OnOk, OnErr, IfOk, IfErr, MatchResult, option_map};
-ghost use Rattle.disk_model.specs.Disk.{At, Torn, Leaves, Quiet, Only, Told, OthersKept, changed_at};
+ghost use Rattle.disk_model.specs.Disk.{At, Torn, Leaves, Quiet, Only, Told, OthersKept, changed_at, written};
 ghost use Rattle.base_types.specs.declared.fault.StoreFault.TheVariants.{DiskFailed as Failed};
-ghost use Rattle.batch_log.specs.Records.{log, WithOrWithout, SameLog, StartsWith};
+ghost use Rattle.batch_log.specs.Records.{body, log, WithOrWithout, SameLog, StartsWith};
 
 use crate::Place;
 use crate::opening::{begin, find_places};
@@ -106,6 +106,12 @@ impl Log {
             → OnOk result (Stands (D.contents disk.new) (D.left_since disk.new (D.time disk.new)) self.new (payloads ++ payload.now ∷ [])) }
         ensures any_moment { (payloads : List (List ℕ)) → Stands (D.contents disk.old) (D.left_since disk.old (D.time disk.old)) self.old payloads
             → Leaves D.time D.left_since (At self.old.file (WithOrWithout payloads payload.now)) disk.old disk.new }
+
+        // What is written: the length, the payload and a closed gate, and then the open gate. From Ok on it is durable.
+        ensures written { OnOk result (D.contents disk.new
+            ≡ option_map (changed_at self.old.file (written self.old.end (1 ∷ [])))
+            (option_map (changed_at self.old.file (written (self.old.end + 1) (body payload.now ++ 0 ∷ []))) (D.contents disk.old))) }
+        ensures durable { Told (D.contents disk.new) (λ m. OnOk result (Only self.old.file (m self.old.file) (D.left_since disk.new (D.time disk.new)))) }
 
         // Whatever is known of the file, it changes only where the record and the closing gate stand, and other files stay.
         ensures part { Leaves D.time D.left_since (At self.old.file (Torn self.old.end (6 + length payload.now))) disk.old disk.new }

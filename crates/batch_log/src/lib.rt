@@ -10,3 +10,6 @@ mod writing;
 
 pub use gated_log::Log;
 pub use places::Place;
+
+#[cfg(test)]
+mod tests;

@@ -1,7 +1,7 @@
 //! How a record is written.
 
-ghost use Rattle.std.specs.Prelude.{◌≡◌, ◌+◌, ◌^◌, ◌≤◌, ◌<◌, ℕ, List, [], ◌∷◌, ◌++◌, length, OnOk, OnErr, vec_capacity};
-ghost use Rattle.disk_model.specs.Disk.{At, Torn, Leaves, OthersKept, HasCause};
+ghost use Rattle.std.specs.Prelude.{◌≡◌, ◌+◌, ◌^◌, ◌≤◌, ◌<◌, ℕ, List, [], ◌∷◌, ◌++◌, length, OnOk, OnErr, option_map, vec_capacity};
+ghost use Rattle.disk_model.specs.Disk.{At, Torn, Leaves, Only, Told, OthersKept, HasCause, changed_at, written};
 ghost use Rattle.batch_log.specs.Records.{body, records, WithOrWithout, HoldsLog};
 
 use disk_model::{Disk, DiskFailed};
@@ -38,6 +38,9 @@ pub fn write_record<D: Disk>(
     ensures ok { (payloads : List (List ℕ)) (payload : List ℕ) → end ≡ length (records payloads) → length payload < 2 ^ 32 → tail.now ≡ body payload ++ 0 ∷ []
         → HoldsLog (D.contents disk.old) (D.left_since disk.old (D.time disk.old)) file payloads
         → OnOk result (HoldsLog (D.contents disk.new) (D.left_since disk.new (D.time disk.new)) file (payloads ++ payload ∷ [])) }
+    ensures written { OnOk result (D.contents disk.new
+        ≡ option_map (changed_at file (written end (1 ∷ []))) (option_map (changed_at file (written (end + 1) tail.now)) (D.contents disk.old))) }
+    ensures durable { Told (D.contents disk.new) (λ m. OnOk result (Only file (m file) (D.left_since disk.new (D.time disk.new)))) }
     ensures others { OthersKept file (D.contents disk.old) (D.contents disk.new) }
     ensures cause { HasCause (D.faults disk.old) (D.faults disk.new) result }
     ensures read { D.bytes_read disk.new ≡ D.bytes_read disk.old }

@@ -1,4 +1,4 @@
-use Rattle.std.proofs.Common.{◌≤◌, [], ◌∷◌, length, arith, ◌∙◌, subst}
+use Rattle.std.proofs.Common.{◌≤◌, [], ◌∷◌, length, arith, ◌∙◌}
 use Rattle.disk_model.specs.Disk.{changed_at, written}
 use Rattle.disk_model.specs.Moments.{changed_here, told_after, so_far_leaves, quiet_none, quiet_call}
 use Rattle.batch_log.specs.Records.{SameLog}

@@ -1,5 +1,5 @@
 -- One gate after the other: the records before it, what stands there, and what was read so far.
-use Rattle.std.proofs.Common.{ℕ, ◌+◌, ◌*◌, length, drop, arith, ◌∙◌, subst, ap}
+use Rattle.std.proofs.Common.{length, drop, arith, ◌∙◌, subst, ap}
 use Rattle.std.proofs.lemmas.List.{length-drop}
 use Rattle.disk_model.specs.Moments.{quiet_then}
 use Rattle.batch_log.specs.Opening.{IsHead}

@@ -1,4 +1,5 @@
 use Rattle.std.proofs.Common.{arith, ℕ, List, ◌≡◌, ◌<◌, ◌^◌, length, ap, sym, ◌∙◌, ◌+◌, ◌++◌, ◌∷◌, [], subst}
+use Rattle.disk_model.specs.Disk.{Only}
 use Rattle.batch_log.specs.Records.{records}
 use Rattle.batch_log.specs.OpenLog.{OpenLog, Stands, places_of}
 use Rattle.batch_log.specs.declared.places.Place.{Place}
@@ -22,3 +23,8 @@ returns-clause-ok g c ps stands =
           ∙ ap (λ (k : ℕ). places_of 0 ps ++ place k ∷ []) at_end
           ∙ sym (places-push 0 ps payload);
     }
+
+pub returns-clause-durable : goal.returns-clause-durable
+returns-clause-durable g c m told =
+    let same : c.self.inside.file ≡ c.args.self.now.file = ap (λ (l : OpenLog). l.file) c.self.view_is in
+    subst (λ (f : ℕ). Only f (m f) (g.D.Disk.left_since c.write_record.new.disk (g.D.Disk.time c.write_record.new.disk))) same (c.in-Ok.ensures.durable m told)

@@ -1,5 +1,5 @@
 -- The fields that every form is made of: what is read of each is so spelled, and what is so spelled is read.
-use Rattle.std.specs.Prelude.{◌≡◌, ◌⊎◌, ℕ, zero, suc, ◌+◌, ◌-◌, ◌*◌, ◌/◌, ◌%◌, ◌^◌, ◌<◌, ◌≤◌, Bool, true, false, List, [], ◌∷◌, ◌++◌, length, take, drop, Result, Ok, Err, refl}
+use Rattle.std.specs.Prelude.{◌≡◌, ℕ, zero, suc, ◌+◌, ◌-◌, ◌*◌, ◌/◌, ◌%◌, ◌^◌, ◌<◌, ◌≤◌, true, false, List, [], ◌∷◌, ◌++◌, length, take, drop, Ok, Err, refl}
 use Rattle.std.proofs.Common.{cond, ltb, eqb, sym, ap, subst, ◌∙◌, append_assoc, arith, inl, inr}
 use Rattle.std.specs.Int.{Width, w16, w32, w64, byte_len, from_le_bytes, to_le_bytes}
 use Rattle.std.proofs.lemmas.Bool.{cases_lt, ltb-true, ltb-false, lt-ltb, le-ltb, eqb-true, eqb-false, ne_eqb}
@@ -8,7 +8,7 @@ use Rattle.std.proofs.lemmas.Nat.{le_bytes_2, le_bytes_4, le_bytes_8, from_le_by
 use Rattle.base_types.specs.declared.cursor.ReadError.{ReadError}
 use Rattle.base_types.specs.declared.cursor.ReadError.TheVariants.{Short, LongSpelling, TooLarge}
 use Rattle.base_types.specs.Bytes.{number_text, compact, marked, varint}
-use Rattle.base_types.specs.Reading.{◌>>=◌, byte_at, bytes_at, number_at, long_at, compact_at, length_at, groups_at, varint_at}
+use Rattle.base_types.specs.Reading.{byte_at, bytes_at, number_at, long_at, compact_at, length_at, groups_at, varint_at}
 use Rattle.base_types.specs.Codec.{IsBytes, IsBytes-drop, IsBytes-take, IsBytes-rest, Takes, IsField, bind_ok, guard_ok, ok_is, chosen}
 
 -- ---- numbers

@@ -1,9 +1,12 @@
 pub mod Bytes
 pub mod Codec
+pub mod Coins
 pub mod Fields
+pub mod Flushes
 pub mod Keys
 pub mod OrderedMaps
 pub mod Printed
 pub mod Reading
 pub mod Refusals
 pub mod Statuses
+pub mod Views

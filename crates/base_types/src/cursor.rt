@@ -48,6 +48,16 @@ impl<'a> Cursor<'a> {
         }
     }
 
+    /// A second cursor at the same place, which goes on by itself.
+    pub fn copy(&self) -> Cursor<'a>
+        ensures { result ≡ self.now }
+    {
+        Cursor {
+            rest: self.rest,
+            end: self.end,
+        }
+    }
+
     /// The offset of the next byte.
     pub fn place(&self) -> usize
         ensures { result ≡ place self.now }

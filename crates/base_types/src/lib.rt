@@ -5,20 +5,28 @@
 mod coin;
 mod cursor;
 mod fault;
+mod flushes;
 mod hash;
+mod keys;
 mod numbers;
 mod program;
 mod refused;
 mod script;
+mod snapshot_error;
+mod view;
 mod writing;
 
 pub use coin::{Coin, TxOut};
 pub use cursor::{Cursor, ReadError};
 pub use fault::StoreFault;
+pub use flushes::{Chain, Flushed, Flushes, Why};
 pub use hash::{Hash32, OutPoint, hash_twice};
+pub use keys::Keys;
 pub use program::{Limits, Rules, Salt, Status, Words};
 pub use refused::{BodyRefused, CoinError, CoinRefused, HeaderRefused};
 pub use script::Script;
+pub use snapshot_error::SnapError;
+pub use view::{CoinEdit, View};
 pub use writing::{put_compact_size, put_u16, put_u32, put_u64, put_varint};
 
 #[cfg(test)]

@@ -35,16 +35,28 @@ pub struct Rules {
 pub enum Status {
     /// The input was read to its end and all was answered.
     Done,
+    /// A call of the disk failed.
+    DiskFault,
+    /// The file of commitments isn't there, or couldn't be read.
+    HostFault,
     /// A read of the commands failed.
     InFault,
     /// A write of the replies failed.
     OutFault,
     /// No memory was left.
     NoMemory,
+    /// The record at this offset of this file is broken.
+    Damaged { file: u32, at: u64 },
     /// The words of the command line aren't in their form.
     Usage,
     /// There are more bytes of commands than are taken.
     TooLong,
+    /// The file would grow beyond its limit. With file 0 there is no further file number.
+    Full { file: u32 },
+    /// The file of commitments isn't of its form.
+    BadCommitments,
+    /// A cache would need more entries than it can number.
+    CacheFull,
 }
 
 impl Status {
@@ -54,11 +66,17 @@ impl Status {
     {
         match self {
             Status::Done => 0,
+            Status::DiskFault => 1,
+            Status::HostFault => 2,
             Status::InFault => 3,
             Status::OutFault => 4,
             Status::NoMemory => 5,
+            Status::Damaged { .. } => 6,
             Status::Usage => 7,
             Status::TooLong => 8,
+            Status::Full { .. } => 9,
+            Status::BadCommitments => 10,
+            Status::CacheFull => 12,
         }
     }
 }

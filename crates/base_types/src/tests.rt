@@ -182,13 +182,52 @@ fn names_and_numbers(rt: HostRuntime) {
     assert_eq!(rt; CoinRefused::CoinbaseAmount.name(), "CoinbaseAmount");
     let statuses = [
         (Status::Done, 0),
+        (Status::DiskFault, 1),
+        (Status::HostFault, 2),
         (Status::InFault, 3),
         (Status::OutFault, 4),
         (Status::NoMemory, 5),
+        (Status::Damaged { file: 3, at: 7 }, 6),
         (Status::Usage, 7),
         (Status::TooLong, 8),
+        (Status::Full { file: 3 }, 9),
+        (Status::BadCommitments, 10),
+        (Status::CacheFull, 12),
     ];
     for (status, number) in statuses {
         assert_eq!(rt; status.number(), number);
     }
+}
+
+#[test]
+fn flushes_and_keys_are_listed(rt: HostRuntime) -> Result<(), Fail> {
+    let tip = Hash32 { bytes: [7; 32] };
+    let mut flushes = Flushes::new(rt.alloc());
+    flushes.begin(Chain::Full, &tip, Why::Command, 3)?;
+    flushes.finish(5);
+    flushes.begin(Chain::Snapshot, &tip, Why::End, 6)?;
+    flushes.tell(0);
+    let told = Flushed {
+        chain: Chain::Full,
+        tip,
+        why: Why::Command,
+        begun: 3,
+        done: Some(5),
+        told: true,
+    };
+    assert_eq!(rt; flushes.as_slice()[0], told);
+    assert!(rt; flushes.as_slice()[1].done.is_none());
+
+    let key = OutPoint {
+        txid: tip,
+        index: 1,
+    };
+    let mut keys = Keys::new(rt.alloc());
+    keys.push(key)?;
+    assert!(rt; keys.as_slice()[0] == key);
+    let mut cursor = Cursor::new(&[1, 2]);
+    let mut ahead = cursor.copy();
+    assert_eq!(rt; ahead.u16(), Ok(513));
+    assert_eq!(rt; cursor.u8(), Ok(1));
+    Ok(())
 }

@@ -8,6 +8,7 @@ use Rattle.std.specs.Option.{option_map_or}
 use Rattle.std.specs.List.{list_any, flat_map}
 use Rattle.std.specs.FinMap.{contains_key}
 use Rattle.base_types.specs.Reading.{◌>>=◌}
+use Rattle.base_types.specs.Coins.{Coins}
 use Rattle.base_types.specs.declared.hash.Hash32.{Hash32}
 use Rattle.base_types.specs.declared.coin.Coin.{Coin}
 use Rattle.base_types.specs.declared.refused.CoinRefused.{CoinRefused}
@@ -18,7 +19,7 @@ use Rattle.block_codec.specs.declared.block.Block.{Block}
 use Rattle.chain_model.specs.Rules.{first_broken, first_some}
 use Rattle.chain_model.specs.Tree.{Tree, height, ancestor, median_time}
 use Rattle.chain_model.specs.BodyRules.{max_money}
-use Rattle.chain_model.specs.Coins.{Coins, outputs_of, without, with_outputs, spent_by, value_of_coins, value_of_outputs, subsidy}
+use Rattle.chain_model.specs.Coins.{outputs_of, without, with_outputs, spent_by, value_of_coins, value_of_outputs, subsidy}
 
 -- an error where some rule is broken
 abbrev pub unless : {A : Type 0} → Option CoinRefused → A → Result A CoinRefused

@@ -1,10 +1,10 @@
--- Coins: what isn't spent, by outpoint.
+-- What the transactions of a block do to coins.
 use Rattle.std.specs.Prelude.{ℕ, zero, suc, ◌+◌, ◌*◌, ◌/◌, ◌^◌, ℤ, pos, negsuc, Bool, not, ◌||◌, List, [], ◌∷◌, length, map, filter, fold, sum_by, nat_lt, nat_le, nat_eq, cond}
 use Rattle.std.specs.declared.option.Option.{Option}
 use Rattle.std.specs.declared.option.Option.TheVariants.{Some, None}
 use Rattle.std.specs.List.{starts_with}
-use Rattle.std.specs.FinMap.{FinMap, get, insert, remove}
-use Rattle.base_types.specs.Keys.{outpoint_cmp}
+use Rattle.std.specs.FinMap.{get, insert, remove}
+use Rattle.base_types.specs.Coins.{Coins}
 use Rattle.base_types.specs.declared.hash.Hash32.{Hash32}
 use Rattle.base_types.specs.declared.hash.OutPoint.{OutPoint}
 use Rattle.base_types.specs.declared.coin.Coin.{Coin}
@@ -12,9 +12,6 @@ use Rattle.base_types.specs.declared.coin.TxOut.{TxOut}
 use Rattle.block_codec.specs.declared.block.TxIn.{TxIn}
 use Rattle.block_codec.specs.declared.block.Tx.{Tx}
 use Rattle.block_codec.specs.Text.{txid_of, is_coinbase}
-
-abbrev pub Coins : Type 0
-Coins = FinMap outpoint_cmp Coin
 
 -- an output can be spent, unless its script begins with OP_RETURN or is longer than 10,000 bytes
 abbrev pub is_spendable : TxOut → Bool

@@ -13,7 +13,8 @@ use Rattle.base_types.specs.declared.coin.Coin.{Coin}
 use Rattle.base_types.specs.declared.refused.CoinError.TheVariants.{HeightTooLarge, BadAmount, ScriptTooLong, SecondSpelling}
 use Rattle.coin_codec.specs.Amount.{amount_code, amount_of, amount_of-code, code-amount_of, amount_code_le}
 use Rattle.coin_codec.specs.ScriptForm.{script_of, kept_len, short_form, script_form, form_of, short_takes, short_again}
-use Rattle.coin_codec.specs.CoinText.{height_code, coin_text, CoinFits}
+use Rattle.base_types.specs.Coins.{height_code}
+use Rattle.coin_codec.specs.CoinText.{coin_text, CoinFits}
 use Rattle.coin_codec.specs.Reading.{Wrong, named, too_few, tested_at, is_u32, is_amount_code, is_script_code, amount_at, kept_at, raw_at, script_at, coin_at}
 
 -- ---- what was read

@@ -1,13 +1,10 @@
 -- The one text of a coin (`Coin` in Bitcoin Core's `coins.h`, with the compressed output of its `compressor.h`).
-use Rattle.std.specs.Prelude.{ℕ, ◌+◌, ◌*◌, ◌^◌, ◌<◌, ◌≤◌, List, ◌++◌, length, if◌then◌else◌}
+use Rattle.std.specs.Prelude.{ℕ, ◌^◌, ◌<◌, ◌≤◌, List, ◌++◌, length}
 use Rattle.base_types.specs.Bytes.{varint}
+use Rattle.base_types.specs.Coins.{height_code}
 use Rattle.base_types.specs.declared.coin.Coin.{Coin}
 use Rattle.coin_codec.specs.Amount.{amount_code}
 use Rattle.coin_codec.specs.ScriptForm.{script_form}
-
--- twice the height, and one more for a coinbase
-abbrev pub height_code : Coin → ℕ
-height_code coin = 2 * coin.height + (if coin.coinbase then 1 else 0)
 
 unfoldable pub coin_text : Coin → List ℕ
 coin_text coin = varint (height_code coin) ++ varint (amount_code coin.value) ++ script_form coin.script

@@ -7,7 +7,8 @@ use Rattle.std.proofs.lemmas.List.Concat.{flat_map-append, flat_map-cons}
 use Rattle.base_types.specs.Bytes.{compact, number_text}
 use Rattle.base_types.specs.declared.hash.OutPoint.{OutPoint}
 use Rattle.base_types.specs.declared.coin.Coin.{Coin}
-use Rattle.coin_hash.specs.CoinHash.{height_code, coin_part, hash_text}
+use Rattle.base_types.specs.Coins.{height_code}
+use Rattle.coin_hash.specs.CoinHash.{coin_part, hash_text}
 
 regroup : (a b c d e f g : List ℕ) → a ++ (b ++ c ++ d ++ e ++ f ++ g) ≡ a ++ b ++ c ++ d ++ e ++ f ++ g
 regroup a b c d e f g = simp append_assoc

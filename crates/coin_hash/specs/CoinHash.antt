@@ -1,19 +1,15 @@
 -- The hash of coins.
-use Rattle.std.specs.Prelude.{ℕ, ◌+◌, ◌*◌, List, ◌++◌, length, if◌then◌else◌}
+use Rattle.std.specs.Prelude.{ℕ, List, ◌++◌, length}
 use Rattle.std.specs.Int.{w32, w64}
 use Rattle.std.specs.List.{flat_map}
-use Rattle.std.specs.FinMap.{FinMap, entries}
+use Rattle.std.specs.FinMap.{entries}
 use Rattle.sha2.specs.Hashers.{Holds256}
 use Rattle.base_types.specs.Bytes.{compact, number_text, hash_twice}
-use Rattle.base_types.specs.Keys.{outpoint_cmp}
+use Rattle.base_types.specs.Coins.{Coins, height_code}
 use Rattle.base_types.specs.declared.hash.Hash32.{Hash32}
 use Rattle.base_types.specs.declared.hash.OutPoint.{OutPoint}
 use Rattle.base_types.specs.declared.coin.Coin.{Coin}
 use Rattle.coin_hash.specs.declared.hasher.Hasher.{Hasher}
-
--- twice the height, and one more for a coinbase
-abbrev pub height_code : Coin → ℕ
-height_code coin = 2 * coin.height + (if coin.coinbase then 1 else 0)
 
 -- what is hashed of a coin: the transaction's hash, the number of the output, the height, the value, and the script with its length
 unfoldable pub coin_part : OutPoint × Coin → List ℕ
@@ -31,7 +27,7 @@ abbrev pub hash_of : List (OutPoint × Coin) → Hash32
 hash_of coins = record { bytes = hash_twice (hash_text coins) }
 
 -- the hash of coins, by the bytes of the transaction's hash and then by the number of the output
-abbrev pub coin_hash : FinMap outpoint_cmp Coin → Hash32
+abbrev pub coin_hash : Coins → Hash32
 coin_hash coins = hash_of (entries coins)
 
 -- the hasher was given these coins, in this order

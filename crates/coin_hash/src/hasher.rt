@@ -7,7 +7,8 @@ ghost use Rattle.base_types.specs.Bytes.{compact};
 ghost use Rattle.base_types.specs.Keys.{outpoint_cmp};
 ghost use Rattle.base_types.specs.declared.hash.OutPoint.{OutPoint};
 ghost use Rattle.base_types.specs.declared.coin.Coin.{Coin};
-ghost use Rattle.coin_hash.specs.CoinHash.{Holds, hash_of, coin_hash, height_code as code_of};
+ghost use Rattle.coin_hash.specs.CoinHash.{Holds, hash_of, coin_hash};
+ghost use Rattle.base_types.specs.Coins.{height_code as code_of};
 
 use base_types::{Coin, Hash32, OutPoint};
 use sha2::{Digest, Sha256};

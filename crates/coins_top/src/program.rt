@@ -5,7 +5,7 @@ ghost use Rattle.std.specs.Io.KnownBytes.{IsAtEnd};
 ghost use Rattle.io_traits.specs.Causes.{Rose};
 ghost use Rattle.coins_top.specs.Command.{file_of};
 ghost use Rattle.coins_top.specs.Reply.{IsReplyTo};
-ghost use Rattle.coins_top.specs.Run.{IsSilent, IsAnswered, IsAnswering, WritesPart, WritesWhole};
+ghost use Rattle.coins_top.specs.Run.{IsOfRun, IsSilent, IsAnswered, IsAnswering, WritesPart, WritesWhole};
 
 use crate::command::{file_to_fold, line};
 use crate::folding::fold;
@@ -67,6 +67,7 @@ pub fn run<H: Host, I: Source, O: Sink>(
     _limits: &Limits,
 ) -> Status
     // Each status has its cause; want of memory alone is free.
+    ensures statuses { IsOfRun result }
     ensures usage { (result ≡ Status.Usage) ↔ (words.now ≢ []) }
     ensures in_fault { result ≡ Status.InFault → Rose (I.faults input.old) (I.faults input.new) }
     ensures out_fault { result ≡ Status.OutFault → Rose (O.faults out.old) (O.faults out.new) }

@@ -1,6 +1,6 @@
-use Rattle.std.proofs.Common.{◌≡◌, ◌<◌, ◌∷◌, ◌++◌, List, ℕ, ◌+◌, ◌-◌, ◌%◌, length, drop, arith, refl, ◌∙◌}
+use Rattle.std.proofs.Common.{◌≡◌, ◌<◌, ◌+◌, ◌-◌, ◌%◌, length, drop, arith, refl, ◌∙◌}
 use Rattle.std.proofs.lemmas.List.{drop-set, length-set}
-use Rattle.base_types.specs.Bytes.{marked, varint}
+use Rattle.base_types.specs.Bytes.{varint}
 use Rattle.base_types.proofs.Groups.{takes_place, in_front, begins, ends, appended}
 use Rattle.base_types.proofs.writing.put_varint.Goals as goal
 

@@ -1,5 +1,5 @@
 -- Applying a block to coins, by whole transactions.
-use Rattle.std.specs.Prelude.{ℕ, zero, suc, ◌+◌, ◌-◌, ◌*◌, ◌/◌, ◌%◌, ◌^◌, Bool, true, false, not, ◌&&◌, ◌||◌, ◌==◌, List, [], ◌∷◌, ◌++◌, map, nat_lt, nat_le, is_some, cond}
+use Rattle.std.specs.Prelude.{ℕ, zero, suc, ◌+◌, ◌-◌, ◌*◌, ◌/◌, ◌%◌, ◌^◌, Bool, true, false, not, ◌&&◌, ◌||◌, ◌==◌, List, [], ◌∷◌, ◌++◌, map, nat_lt, nat_le, is_some, cond, unwrap_or}
 use Rattle.std.specs.declared.option.Option.{Option}
 use Rattle.std.specs.declared.option.Option.TheVariants.{Some, None}
 use Rattle.std.specs.declared.result.Result.{Result}
@@ -136,3 +136,18 @@ outcome tree coins block =
 unfoldable pub replayed : Tree → Coins → List Block → Result Coins CoinRefused
 replayed tree coins [] = Ok coins
 replayed tree coins (block ∷ blocks) = outcome tree coins block >>= λ next. replayed tree next blocks
+
+-- ---- undo data
+
+-- the coins that each of these transactions spends, as they go through them one after the other
+unfoldable pub spent_in : ℕ → Coins → List Tx → List (List Coin)
+spent_in at coins [] = []
+spent_in at coins (tx ∷ txs) = unwrap_or (spent_by coins tx.inputs) [] ∷ spent_in at (spent_and_made at tx coins) txs
+
+abbrev pub undo_of_txs : ℕ → Coins → List Tx → List (List Coin)
+undo_of_txs at coins [] = []
+undo_of_txs at coins (coinbase ∷ txs) = spent_in at (with_outputs at coinbase coins) txs
+
+-- per transaction but the coinbase, the coins that its inputs spend, those made earlier in the block included
+abbrev pub undo_of : Tree → Coins → Block → List (List Coin)
+undo_of tree coins block = undo_of_txs (height tree.headers block.header.prev + 1) coins block.txs

@@ -1,5 +1,6 @@
 pub mod Apply
 pub mod BodyRules
+pub mod Choice
 pub mod Coins
 pub mod Examples
 pub mod HeaderRules

@@ -1,6 +1,3 @@
-mod Fitting
-mod HasText
-mod Laws
 mod Loop
 mod Places
 mod Stacks

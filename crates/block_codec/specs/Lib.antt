@@ -1,9 +1,14 @@
+pub mod BlockLaws
 pub mod Commitment
 pub mod Encoding
 pub mod Examples
+pub mod Fitting
 pub mod FrameExamples
 pub mod Frames
+pub mod HasText
+pub mod InputLaws
 pub mod Merkle
 pub mod Reading
 pub mod Text
+pub mod TxLaws
 pub mod Weight

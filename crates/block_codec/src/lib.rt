@@ -16,10 +16,10 @@ mod writing;
 pub use block::{Block, Header, Inputs, Outputs, Stack, Tx, TxIn, Txs};
 pub use fault::{BlockError, BlockFault};
 pub use hashing::{block_hash, txid, wtxid};
-pub use reading::read_block;
+pub use reading::{read_block, read_header};
 pub use size::{stripped_size, total_size, weight};
 pub use witness::{has_witness, is_coinbase};
-pub use writing::write_block;
+pub use writing::{write_block, write_header};
 
 #[cfg(test)]
 mod tests;

@@ -294,8 +294,9 @@ fn txs_of(alloc: Global, count: usize, cursor: &mut Cursor<'_>) -> Result<Txs, B
     Ok(txs)
 }
 
+/// The header that stands at the cursor, of 80 bytes, which have no fault but that they end too early.
 #[tactic(auto, unfolding(crate::specs::Reading::header_at))]
-fn header_of(cursor: &mut Cursor<'_>) -> Result<Header, BlockFault>
+pub fn read_header(cursor: &mut Cursor<'_>) -> Result<Header, BlockFault>
     ensures { Reads result cursor.new (header_at cursor.old) }
 {
     let version = u32_of(cursor)?.cast_signed();
@@ -318,7 +319,7 @@ fn header_of(cursor: &mut Cursor<'_>) -> Result<Header, BlockFault>
 fn block_in(alloc: Global, cursor: &mut Cursor<'_>) -> Result<Block, BlockFault>
     ensures { Reads result cursor.new (block_at cursor.old) }
 {
-    let header = header_of(cursor)?;
+    let header = read_header(cursor)?;
     let count = length_of(cursor)?;
     let txs = txs_of(alloc, count, cursor)?;
     Ok(Block { header, txs })

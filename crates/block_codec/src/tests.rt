@@ -1,5 +1,5 @@
 use super::*;
-use base_types::{Hash32, OutPoint, Script, TxOut};
+use base_types::{Cursor, Hash32, OutPoint, Script, TxOut};
 use std::alloc::{AllocError, Global};
 use std::test::Fail;
 
@@ -85,6 +85,10 @@ fn blocks_read_and_write(rt: HostRuntime) -> Result<(), Fail> {
         assert_eq!(rt; stripped_size(&block), stripped);
         assert_eq!(rt; weight(&block), weighs);
         assert!(rt; block.clone()? == block);
+        let mut first = Vec::new(rt.alloc());
+        write_header(&mut first, &block.header)?;
+        assert_eq!(rt; Some(first.as_slice()), bytes.as_slice().get(..80));
+        assert_eq!(rt; read_header(&mut Cursor::new(bytes)), Ok(block.header));
         let printed = block_hash(&block.header).printed();
         assert_eq!(rt;
             printed.as_slice(),

@@ -1,0 +1,121 @@
+-- Headers and blocks: what is read has that text, and what has a text is read.
+use Rattle.std.proofs.Common.{◌≡◌, ℕ, ◌^◌, ◌<◌, eqb, List, [], ◌++◌, length, Ok, refl, sym, ap, subst, ◌∙◌, append_assoc, arith}
+use Rattle.std.specs.Int.{w32, cast_signed, cast_unsigned}
+use Rattle.std.specs.Prelude.{ℤ}
+use Rattle.std.proofs.Common.{Fits}
+use Rattle.std.specs.Int.RustNames.{FitsSigned}
+use Rattle.std.specs.List.{flat_map}
+use Rattle.std.proofs.lemmas.Bool.{eqb-true}
+use Rattle.std.proofs.lemmas.List.{nil_from_length, append-nil}
+use Rattle.std.proofs.lemmas.Int.{of_z-to_z, to_z-of_z}
+use Rattle.std.proofs.Math.Facts.{Fits-of_z, sfits_to_z}
+use Rattle.base_types.specs.Reading.{Input, place}
+use Rattle.base_types.specs.Bytes.{compact, number_text}
+use Rattle.base_types.specs.Codec.{IsBytes, Takes, Takes-then, IsCodec, at, guard_else, ok_is, step, many_codec}
+use Rattle.block_codec.specs.declared.block.Header.{Header}
+use Rattle.block_codec.specs.declared.block.Block.{Block}
+use Rattle.block_codec.specs.declared.fault.BlockError.TheVariants.{Trailing}
+use Rattle.block_codec.specs.Reading.{Wrong, header_at, block_at, block_of}
+use Rattle.block_codec.specs.Text.{tx_text, header_text, block_text}
+use Rattle.block_codec.specs.Fitting.{IsLength, HeaderFits, BlockFits}
+use Rattle.block_codec.specs.InputLaws.{u32_codec, length_codec, bytes_codec}
+use Rattle.block_codec.specs.TxLaws.{tx_codec}
+
+-- ---- a header
+
+pub signed32 : (n : ℕ) → n < 2 ^ 32 → FitsSigned w32 (cast_signed w32 n)
+signed32 n lt =
+    let f : Fits w32 n = omega (arith, lt) in
+    sfits_to_z {w = w32} f
+
+pub bits32 : (z : ℤ) → FitsSigned w32 z → cast_unsigned w32 z < 2 ^ 32
+bits32 z fits =
+    let f : Fits w32 (cast_unsigned w32 z) = Fits-of_z fits in
+    omega (arith, f)
+
+pub header_takes : (i : Input) (x : Header) (j : Input) → IsBytes i.rest → header_at i ≡ Ok (x, j) → Takes i.rest (header_text x) j.rest × HeaderFits x
+unfolding header_at
+header_takes i x j fits e =
+    let a = step u32_codec i _ (x, j) fits e in
+    let b = step (bytes_codec 32) a.after _ (x, j) a.takes.rest_fits a.goes_on in
+    let c = step (bytes_codec 32) b.after _ (x, j) b.takes.rest_fits b.goes_on in
+    let d = step u32_codec c.after _ (x, j) c.takes.rest_fits c.goes_on in
+    let f = step u32_codec d.after _ (x, j) d.takes.rest_fits d.goes_on in
+    let g = step u32_codec f.after _ (x, j) f.takes.rest_fits f.goes_on in
+    let ab = Takes-then i.rest (number_text w32 a.value) a.after.rest b.value b.after.rest a.takes b.takes in
+    let abc = Takes-then i.rest (number_text w32 a.value ++ b.value) b.after.rest c.value c.after.rest ab c.takes in
+    let abcd = Takes-then i.rest (number_text w32 a.value ++ b.value ++ c.value) c.after.rest (number_text w32 d.value) d.after.rest abc d.takes in
+    let abcdf = Takes-then i.rest (number_text w32 a.value ++ b.value ++ c.value ++ number_text w32 d.value) d.after.rest (number_text w32 f.value) f.after.rest abcd f.takes in
+    let all = Takes-then i.rest (number_text w32 a.value ++ b.value ++ c.value ++ number_text w32 d.value ++ number_text w32 f.value) f.after.rest (number_text w32 g.value) g.after.rest abcdf g.takes in
+    let made : Header × Input = (record { version = cast_signed w32 a.value; prev = record { bytes = b.value }; root = record { bytes = c.value }; time = d.value; bits = f.value; nonce = g.value }, g.after) in
+    let bits : cast_unsigned w32 (cast_signed w32 a.value) ≡ a.value = of_z-to_z w32 a.value a.fits in
+    let whole : Takes i.rest (header_text made.0) made.1.rest = subst (λ (k : ℕ). Takes i.rest (number_text w32 k ++ b.value ++ c.value ++ number_text w32 d.value ++ number_text w32 f.value ++ number_text w32 g.value) g.after.rest) (sym bits) all in
+    subst (λ (y : Header × Input). Takes i.rest (header_text y.0) y.1.rest × HeaderFits y.0) (ok_is {E = Wrong} made (x, j) g.goes_on)
+    (whole, record { version = signed32 a.value a.fits; prev = b.fits; root = c.fits; time = d.fits; bits = f.fits; nonce = g.fits })
+
+pub header_again : (h : Header) (end : ℕ) (rest : List ℕ) → HeaderFits h → header_at (at end (header_text h ++ rest)) ≡ Ok (h, at end rest)
+unfolding header_at
+header_again h end rest fits =
+    let regrouped : header_text h ++ rest ≡ number_text w32 (cast_unsigned w32 h.version) ++ (h.prev.bytes ++ (h.root.bytes ++ (number_text w32 h.time ++ (number_text w32 h.bits ++ (number_text w32 h.nonce ++ rest))))) = simp append_assoc in
+    ap (λ (y : List ℕ). header_at (at end y)) regrouped ∙
+    rw (
+      u32_codec.again (cast_unsigned w32 h.version) end (h.prev.bytes ++ (h.root.bytes ++ (number_text w32 h.time ++ (number_text w32 h.bits ++ (number_text w32 h.nonce ++ rest))))) (bits32 h.version fits.version),
+      (bytes_codec 32).again h.prev.bytes end (h.root.bytes ++ (number_text w32 h.time ++ (number_text w32 h.bits ++ (number_text w32 h.nonce ++ rest)))) fits.prev,
+      (bytes_codec 32).again h.root.bytes end (number_text w32 h.time ++ (number_text w32 h.bits ++ (number_text w32 h.nonce ++ rest))) fits.root,
+      u32_codec.again h.time end (number_text w32 h.bits ++ (number_text w32 h.nonce ++ rest)) fits.time,
+      u32_codec.again h.bits end (number_text w32 h.nonce ++ rest) fits.bits,
+      u32_codec.again h.nonce end rest fits.nonce,
+    ) (ap (λ (v : ℤ). Ok (record { version = v; prev = h.prev; root = h.root; time = h.time; bits = h.bits; nonce = h.nonce }, at end rest)) (to_z-of_z w32 h.version fits.version))
+
+pub header_codec : IsCodec header_at header_text HeaderFits
+header_codec = record { takes = header_takes; again = header_again }
+
+-- ---- a block
+
+pub regroup_block : (a b c rest : List ℕ) → (a ++ b ++ c) ++ rest ≡ a ++ (b ++ (c ++ rest))
+regroup_block a b c rest = simp append_assoc
+
+pub block_takes : (i : Input) (x : Block) (j : Input) → IsBytes i.rest → block_at i ≡ Ok (x, j) → Takes i.rest (block_text x) j.rest × BlockFits x
+unfolding block_at
+block_takes i x j fits e =
+    let a = step header_codec i _ (x, j) fits e in
+    let b = step length_codec a.after _ (x, j) a.takes.rest_fits a.goes_on in
+    let c = step (many_codec tx_codec b.value) b.after _ (x, j) b.takes.rest_fits b.goes_on in
+    let ab = Takes-then i.rest (header_text a.value) a.after.rest (compact b.value) b.after.rest a.takes b.takes in
+    let abc = Takes-then i.rest (header_text a.value ++ compact b.value) b.after.rest (flat_map tx_text c.value) c.after.rest ab c.takes in
+    let counted = subst (λ (k : ℕ). Takes i.rest (header_text a.value ++ compact k ++ flat_map tx_text c.value) c.after.rest) (sym c.fits.len) abc in
+    let made : Block × Input = (record { header = a.value; txs = c.value }, c.after) in
+    subst (λ (y : Block × Input). Takes i.rest (block_text y.0) y.1.rest × BlockFits y.0) (ok_is {E = Wrong} made (x, j) c.goes_on)
+    (counted, record { header = a.fits; tx_count = subst IsLength (sym c.fits.len) b.fits; txs = c.fits.each })
+
+pub block_again : (b : Block) (end : ℕ) (rest : List ℕ) → BlockFits b → block_at (at end (block_text b ++ rest)) ≡ Ok (b, at end rest)
+unfolding block_at
+block_again b end rest fits =
+    let regrouped : block_text b ++ rest ≡ header_text b.header ++ (compact (length b.txs) ++ (flat_map tx_text b.txs ++ rest)) = regroup_block (header_text b.header) (compact (length b.txs)) (flat_map tx_text b.txs) rest in
+    ap (λ (y : List ℕ). block_at (at end y)) regrouped ∙
+    rw (
+      header_codec.again b.header end (compact (length b.txs) ++ (flat_map tx_text b.txs ++ rest)) fits.header,
+      length_codec.again (length b.txs) end (flat_map tx_text b.txs ++ rest) fits.tx_count,
+      (many_codec tx_codec (length b.txs)).again b.txs end rest (record { len = refl; each = fits.txs }),
+    ) refl
+
+pub block_codec : IsCodec block_at block_text BlockFits
+block_codec = record { takes = block_takes; again = block_again }
+
+-- ---- all bytes
+
+pub whole_takes : (bytes : List ℕ) (b : Block) → IsBytes bytes → block_of bytes ≡ Ok b → BlockFits b × (bytes ≡ block_text b)
+unfolding block_of
+whole_takes bytes b fits e =
+    let a = step block_codec (at (length bytes) bytes) _ b fits e in
+    let g = guard_else (eqb (length a.after.rest) 0) (Trailing, place a.after) a.value b a.goes_on in
+    let nothing : a.after.rest ≡ [] = nil_from_length a.after.rest (eqb-true _ _ g.0) in
+    let whole : bytes ≡ block_text a.value = a.takes.parts ∙ ap (λ (r : List ℕ). block_text a.value ++ r) nothing ∙ append-nil (block_text a.value) in
+    subst (λ (y : Block). BlockFits y × (bytes ≡ block_text y)) g.1 (a.fits, whole)
+
+pub whole_again : (b : Block) → BlockFits b → block_of (block_text b) ≡ Ok b
+unfolding block_of
+whole_again b fits =
+    let whole : block_at (at (length (block_text b)) (block_text b)) ≡ Ok (b, at (length (block_text b)) []) =
+    ap (λ (y : List ℕ). block_at (at (length (block_text b)) y)) (sym (append-nil (block_text b))) ∙ block_codec.again b (length (block_text b)) [] fits in
+    rw whole refl

@@ -1,8 +1,9 @@
 //! The log itself.
 
-ghost use Rattle.std.specs.Prelude.{◌≡◌, ◌≢◌, ◌⊎◌, ◌+◌, ◌-◌, ◌*◌, ◌^◌, ◌≤◌, ◌<◌, ◌↔◌, ℕ, List, [], ◌∷◌, ◌++◌, length, take, drop, slice_get, Contains, Some, IsTrue, OnOk, OnErr, IfOk, IfErr, MatchResult, option_map};
+ghost use Rattle.std.specs.Prelude.{◌≡◌, ◌≢◌, ◌⊎◌, ◌+◌, ◌-◌, ◌*◌, ◌^◌, ◌≤◌, ◌<◌, ◌↔◌, ℕ, List, [], ◌∷◌, ◌++◌, length, take, drop, slice_get, Contains, Some, IsTrue, OnOk, OnErr, IfOk, IfErr, MatchResult, All, option_map};
 ghost use Rattle.disk_model.specs.Disk.{At, Torn, Leaves, Quiet, Only, Told, OthersKept, changed_at, written};
 ghost use Rattle.base_types.specs.declared.fault.StoreFault.TheVariants.{DiskFailed as Failed};
+ghost use Rattle.batch_log.specs.declared.places.Place.{Place};
 ghost use Rattle.batch_log.specs.Records.{body, log, WithOrWithout, SameLog, StartsWith};
 
 use crate::Place;
@@ -153,7 +154,10 @@ impl Log {
 
     /// Where the payloads lie, in their order.
     pub fn places(&self) -> &[Place]
-        ensures { result.now ≡ self.now.places }
+        ensures all { result.now ≡ self.now.places }
+
+        // Each record ends at an offset of 64 bits.
+        ensures short { All (λ (p : Place). p.at + (5 + p.len) < 2 ^ 64) result.now }
     {
         self.places.as_slice()
     }

@@ -1,21 +1,21 @@
 -- Headers and blocks: what is read has that text, and what has a text is read.
-use Rattle.std.proofs.Common.{◌≡◌, ℕ, ◌^◌, ◌<◌, eqb, List, [], ◌++◌, length, Ok, refl, sym, ap, subst, ◌∙◌, append_assoc, arith}
-use Rattle.std.specs.Int.{w32, cast_signed, cast_unsigned}
+use Rattle.std.proofs.Common.{◌≡◌, ℕ, ◌+◌, ◌^◌, ◌<◌, ◌≤◌, eqb, List, [], ◌++◌, length, take, drop, Ok, refl, sym, ap, subst, ◌∙◌, append_assoc, arith}
+use Rattle.std.specs.Int.{w32, from_le_bytes, cast_signed, cast_unsigned}
 use Rattle.std.specs.Prelude.{ℤ}
 use Rattle.std.proofs.Common.{Fits}
 use Rattle.std.specs.Int.RustNames.{FitsSigned}
 use Rattle.std.specs.List.{flat_map}
-use Rattle.std.proofs.lemmas.Bool.{eqb-true}
-use Rattle.std.proofs.lemmas.List.{nil_from_length, append-nil}
+use Rattle.std.proofs.lemmas.Bool.{eqb-true, le-ltb}
+use Rattle.std.proofs.lemmas.List.{nil_from_length, append-nil, length-append, length-drop}
 use Rattle.std.proofs.lemmas.Int.{of_z-to_z, to_z-of_z}
 use Rattle.std.proofs.Math.Facts.{Fits-of_z, sfits_to_z}
-use Rattle.base_types.specs.Reading.{Input, place}
+use Rattle.base_types.specs.Reading.{Input, place, bytes_at, number_at}
 use Rattle.base_types.specs.Bytes.{compact, number_text}
-use Rattle.base_types.specs.Codec.{IsBytes, Takes, Takes-then, IsCodec, at, guard_else, ok_is, step, many_codec}
+use Rattle.base_types.specs.Codec.{IsBytes, Takes, Takes-then, IsCodec, at, field, guard_else, ok_is, step, many_codec}
 use Rattle.block_codec.specs.declared.block.Header.{Header}
 use Rattle.block_codec.specs.declared.block.Block.{Block}
 use Rattle.block_codec.specs.declared.fault.BlockError.TheVariants.{Trailing}
-use Rattle.block_codec.specs.Reading.{Wrong, header_at, block_at, block_of}
+use Rattle.block_codec.specs.Reading.{Wrong, wrong, header_at, block_at, block_of}
 use Rattle.block_codec.specs.Text.{tx_text, header_text, block_text}
 use Rattle.block_codec.specs.Fitting.{IsLength, HeaderFits, BlockFits}
 use Rattle.block_codec.specs.InputLaws.{u32_codec, length_codec, bytes_codec}
@@ -69,6 +69,57 @@ header_again h end rest fits =
 
 pub header_codec : IsCodec header_at header_text HeaderFits
 header_codec = record { takes = header_takes; again = header_again }
+
+four_bytes : (n : ℕ) → length (number_text w32 n) ≡ 4
+unfolding number_text
+four_bytes n = refl
+
+-- four numbers of 4 bytes, and two hashes of 32
+pub length-header : (h : Header) → length h.prev.bytes ≡ 32 → length h.root.bytes ≡ 32 → length (header_text h) ≡ 80
+length-header h prev root = grind (arith, length-append, four_bytes)
+
+-- a number of 4 bytes and 32 bytes are there
+number_there : (i : Input) → 4 ≤ length i.rest → field wrong (number_at w32) i ≡ Ok (from_le_bytes w32 (take 4 i.rest), at i.end (drop 4 i.rest))
+number_there i long = rw (le-ltb (length i.rest) 4 long) refl
+
+hash_there : (i : Input) → 32 ≤ length i.rest → field wrong (bytes_at 32) i ≡ Ok (take 32 i.rest, at i.end (drop 32 i.rest))
+hash_there i long = rw (le-ltb (length i.rest) 32 long) refl
+
+-- any 80 bytes are a header
+pub header_there : (i : Input) → 80 ≤ length i.rest → (h : Header) × (j : Input) × (header_at i ≡ Ok (h, j)) × (length i.rest ≡ 80 + length j.rest)
+unfolding header_at
+header_there i long =
+    let a = drop 4 i.rest in
+    let b = drop 32 a in
+    let c = drop 32 b in
+    let d = drop 4 c in
+    let e = drop 4 d in
+    let f = drop 4 e in
+    let la = length-drop 4 i.rest in
+    let lb = length-drop 32 a in
+    let lc = length-drop 32 b in
+    let ld = length-drop 4 c in
+    let le = length-drop 4 d in
+    let lf = length-drop 4 e in (
+      record {
+        version = cast_signed w32 (from_le_bytes w32 (take 4 i.rest));
+        prev = record { bytes = take 32 a };
+        root = record { bytes = take 32 b };
+        time = from_le_bytes w32 (take 4 c);
+        bits = from_le_bytes w32 (take 4 d);
+        nonce = from_le_bytes w32 (take 4 e);
+      },
+      at i.end f,
+      rw (
+        number_there i (omega arith),
+        hash_there (at i.end a) (omega arith),
+        hash_there (at i.end b) (omega arith),
+        number_there (at i.end c) (omega arith),
+        number_there (at i.end d) (omega arith),
+        number_there (at i.end e) (omega arith),
+      ) refl,
+      omega arith,
+    )
 
 -- ---- a block
 

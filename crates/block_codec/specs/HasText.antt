@@ -150,7 +150,7 @@ fits_tx t f =
       ),
     )
 
-header_fits : (h : Header) → header_has_text h ≡ true → HeaderFits h
+pub header_fits : (h : Header) → header_has_text h ≡ true → HeaderFits h
 header_fits h e =
     let p = parts (is_i32 h.version ∷ (length h.prev.bytes == 32) ∷ (length h.root.bytes == 32) ∷ is_u32 h.time ∷ is_u32 h.bits ∷ is_u32 h.nonce ∷ []) e in
     record {
@@ -162,7 +162,7 @@ header_fits h e =
       nonce = ltb-true h.nonce (2 ^ 32) p.1.1.1.1.1.0;
     }
 
-fits_header : (h : Header) → HeaderFits h → header_has_text h ≡ true
+pub fits_header : (h : Header) → HeaderFits h → header_has_text h ≡ true
 fits_header h f =
     joined (is_i32 h.version ∷ (length h.prev.bytes == 32) ∷ (length h.root.bytes == 32) ∷ is_u32 h.time ∷ is_u32 h.bits ∷ is_u32 h.nonce ∷ [])
     (fits_i32 h.version f.version, (eq-eqb (length h.prev.bytes) 32 f.prev, (eq-eqb (length h.root.bytes) 32 f.root, (lt-ltb h.time (2 ^ 32) f.time, (lt-ltb h.bits (2 ^ 32) f.bits, (lt-ltb h.nonce (2 ^ 32) f.nonce, tt))))))

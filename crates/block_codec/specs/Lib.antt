@@ -7,6 +7,7 @@ pub mod FrameExamples
 pub mod Frames
 pub mod HasText
 pub mod InputLaws
+pub mod Loop
 pub mod Merkle
 pub mod Reading
 pub mod Text

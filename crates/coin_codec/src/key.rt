@@ -81,7 +81,7 @@ fn key_of(cursor: &mut Cursor<'_>) -> Result<OutPoint, ReadError>
 }
 
 /// Reads an outpoint. The error is LongSpelling where the first byte isn't the letter C, and TooLarge where the number
-/// is above 2^32 - 1. After an error the cursor may stand behind the fields that were read.
+/// is above 2^32 - 1. After an error the cursor is as before.
 #[tactic(auto, using(crate::specs::Further::further_steps))]
 pub fn read_key(cursor: &mut Cursor<'_>) -> Result<OutPoint, ReadError>
     // What is read has this text.
@@ -93,8 +93,12 @@ pub fn read_key(cursor: &mut Cursor<'_>) -> Result<OutPoint, ReadError>
     // Which error it is.
     ensures exact { Reads result cursor.new (key_at cursor.old) }
 
-    // Where the cursor stands, after an error too.
+    // Where the cursor stands.
     ensures further { IsFurther cursor.old cursor.new }
+    ensures kept { OnErr result (cursor.new ≡ cursor.old) }
 {
-    key_of(cursor)
+    let mut ahead = cursor.copy();
+    let key = key_of(&mut ahead)?;
+    *cursor = ahead;
+    Ok(key)
 }

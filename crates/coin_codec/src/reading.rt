@@ -166,7 +166,8 @@ fn coin_of(alloc: Global, cursor: &mut Cursor<'_>) -> Result<Coin, CoinFault>
 
 /// Reads a coin, with an error's offset (the form in Bitcoin Core's `coins.h` and `compressor.h`). Its value is at
 /// most 2,100,000,000,000,000 satoshis, its script at most 10,000 bytes and its height below 2^31. It takes one
-/// allocation, for the script. After an error the cursor may stand behind the fields that were read.
+/// allocation, for the script. After an error the cursor may stand behind fields that were read (`Cursor::copy` keeps the
+/// place before the coin).
 #[tactic(auto, using(crate::specs::Further::further_steps))]
 pub fn read_coin(alloc: Global, cursor: &mut Cursor<'_>) -> Result<Coin, CoinFault>
     // What is read has this text.

@@ -1,7 +1,7 @@
 use Rattle.std.proofs.lemmas.Result.{err_from_is_err_and}
 use Rattle.base_types.specs.Codec.{many_at}
 use Rattle.block_codec.specs.Reading.{output_at}
-use Rattle.block_codec.proofs.Loop.{goes_on, ends, is_done}
+use Rattle.block_codec.specs.Loop.{goes_on, ends, is_done}
 use Rattle.block_codec.proofs.reading.outputs_of.Goals as goal
 
 pub returns-in_err-output : goal.returns-in_err-output

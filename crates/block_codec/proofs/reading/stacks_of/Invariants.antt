@@ -1,6 +1,6 @@
 use Rattle.std.proofs.Common.{◌≡◌, length, take, drop}
 use Rattle.block_codec.specs.Reading.{stacks_at}
-use Rattle.block_codec.proofs.Loop.{with_front}
+use Rattle.block_codec.specs.Loop.{with_front}
 use Rattle.block_codec.proofs.reading.stacks_of.Given as goal
 
 abbrev pub invariant-loop-index : goal.invariant-loop-index

@@ -1,7 +1,7 @@
 use Rattle.std.proofs.Common.{◌≡◌, ◌-◌}
 use Rattle.base_types.specs.Codec.{many_at}
 use Rattle.block_codec.specs.Reading.{tx_at}
-use Rattle.block_codec.proofs.Loop.{with_front}
+use Rattle.block_codec.specs.Loop.{with_front}
 use Rattle.block_codec.proofs.reading.txs_of.Given as goal
 
 abbrev pub invariant-loop : goal.invariant-loop

@@ -1,0 +1,14 @@
+pub mod Bits
+pub mod Changing
+pub mod EmptyTree
+pub mod Entering
+pub mod Entries
+pub mod Inversions
+pub mod Joining
+pub mod KnownOutputs
+pub mod Minting
+pub mod Missing
+pub mod SpentCoins
+pub mod Steps
+pub mod UntouchedCoins
+pub mod Worth

@@ -1,5 +1,5 @@
 -- What the transactions of a block do to coins.
-use Rattle.std.specs.Prelude.{ℕ, zero, suc, ◌+◌, ◌*◌, ◌/◌, ◌^◌, ℤ, pos, negsuc, Bool, not, ◌||◌, List, [], ◌∷◌, length, map, filter, fold, sum_by, nat_lt, nat_le, nat_eq, cond}
+use Rattle.std.specs.Prelude.{ℕ, suc, ◌/◌, ◌^◌, ℤ, pos, negsuc, Bool, not, ◌||◌, List, [], ◌∷◌, length, filter, fold, sum_by, nat_lt, nat_le, nat_eq, cond}
 use Rattle.std.specs.declared.option.Option.{Option}
 use Rattle.std.specs.declared.option.Option.TheVariants.{Some, None}
 use Rattle.std.specs.List.{starts_with}

@@ -1,5 +1,5 @@
 -- Worked examples of the definitions.
-use Rattle.std.specs.Prelude.{◌≡◌, ℕ, ◌+◌, ◌-◌, List, [], ◌∷◌, ◌++◌, replicate, true, false, pos, negsuc, refl}
+use Rattle.std.specs.Prelude.{◌≡◌, [], ◌∷◌, ◌++◌, replicate, true, false, pos, negsuc, refl}
 use Rattle.chain_model.specs.Tree.{among, rising, median}
 use Rattle.chain_model.specs.HeaderRules.{number_of, target, is_outdated}
 use Rattle.chain_model.specs.BodyRules.{least_bytes, without_sign, height_push, is_out_of_range}

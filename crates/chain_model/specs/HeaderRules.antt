@@ -1,17 +1,16 @@
 -- The rules of headers, and the trees that they allow.
-use Rattle.std.specs.Prelude.{◌≡◌, ℕ, zero, suc, ◌+◌, ◌*◌, ◌^◌, ℤ, pos, negsuc, Bool, true, false, not, ◌&&◌, ◌||◌, ◌==◌, List, [], ◌∷◌, length, fold, nat_lt, nat_le, cond}
+use Rattle.std.specs.Prelude.{◌≡◌, ℕ, zero, suc, ◌+◌, ◌*◌, ◌^◌, ℤ, pos, negsuc, Bool, true, false, not, ◌&&◌, ◌||◌, ◌==◌, List, [], ◌∷◌, ◌++◌, length, fold, nat_lt, nat_le, cond}
 use Rattle.std.specs.declared.option.Option.{Option}
 use Rattle.std.specs.declared.option.Option.TheVariants.{Some, None}
 use Rattle.std.specs.FinMap.{contains_key}
 use Rattle.std.specs.FinMap as finite
-use Rattle.base_types.specs.declared.hash.Hash32.{Hash32}
 use Rattle.base_types.specs.declared.program.Rules.{Rules}
 use Rattle.base_types.specs.declared.refused.HeaderRefused.{HeaderRefused}
 use Rattle.base_types.specs.declared.refused.HeaderRefused.TheVariants.{Known, HighHash, NoParent, BadBits, TooOld, BadVersion, TreeFull}
 use Rattle.block_codec.specs.declared.block.Header.{Header}
 use Rattle.block_codec.specs.Text.{hash_of_header}
 use Rattle.chain_model.specs.Rules.{first_broken}
-use Rattle.chain_model.specs.Tree.{Headers, Tree, first_headers, height, median_time}
+use Rattle.chain_model.specs.Tree.{Tree, first_headers, height, median_time}
 
 -- the number whose lowest byte stands first
 abbrev pub number_of : List ℕ → ℕ
@@ -77,14 +76,15 @@ pub record IsTree (limit : ℕ) (tree : Tree) : Type 0 where
 
 -- ---- the closure of a tree under the headers of a file
 
--- a tree, and whether a further header found it full
+-- a tree, the headers that were added in their order, and whether a further header found it full
 pub record Closed : Type 0 where
   pub tree : Tree
+  pub added : List Header
   pub full : Bool
 
 -- a header that breaks no rule is added; where the tree is full it ends the work; any other is passed over
 abbrev pub judged : Option HeaderRefused → Closed → Header → Closed
-judged None closed header = record closed { tree = with_header closed.tree header }
+judged None closed header = record closed { tree = with_header closed.tree header; added = closed.added ++ header ∷ [] }
 judged (Some TreeFull) closed header = record closed { full = true }
 judged (Some Known) closed header = closed
 judged (Some HighHash) closed header = closed
@@ -107,4 +107,4 @@ rounds limit (suc n) headers closed = rounds limit n headers (round limit header
 
 -- The rounds go on until one adds nothing. Each round before that adds a header, so there are no more than headers.
 abbrev pub closure : ℕ → Tree → List Header → Closed
-closure limit tree headers = rounds limit (length headers) headers (record { tree = tree; full = false })
+closure limit tree headers = rounds limit (length headers) headers (record { tree = tree; added = []; full = false })

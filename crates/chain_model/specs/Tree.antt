@@ -1,5 +1,5 @@
 -- The tree of headers: blocks by their hashes, each but the first below its parent.
-use Rattle.std.specs.Prelude.{◌≡◌, ℕ, zero, suc, ◌+◌, ◌-◌, ◌/◌, Bool, true, false, not, List, [], ◌∷◌, length, take, map, reverse, take_while, slice_get, pos, nat_le, cond, unwrap_or}
+use Rattle.std.specs.Prelude.{ℕ, zero, suc, ◌-◌, ◌/◌, not, List, [], ◌∷◌, length, take, map, reverse, take_while, slice_get, pos, nat_le, cond, unwrap_or}
 use Rattle.std.specs.declared.option.Option.{Option}
 use Rattle.std.specs.declared.option.Option.TheVariants.{Some, None}
 use Rattle.std.specs.Option.{option_map_or}

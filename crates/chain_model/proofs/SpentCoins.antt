@@ -1,0 +1,180 @@
+-- The coins that a transaction spends, and the rules on them in their order.
+use Rattle.std.proofs.Common.{◌≡◌, ◌<◌, ◌≤◌, ◌+◌, ◌-◌, ◌^◌, ℕ, List, [], ◌∷◌, ◌++◌, length, drop, get_or, Bool, true, false, nat_lt, Option, Some, None, Result, Ok, Err, Bor, refl, sym, ap, ◌∙◌, arith}
+use Rattle.std.specs.Prelude.{min, option_map}
+use Rattle.std.proofs.lemmas.List.{at_drop_more, at_drop_all, append_assoc, append-nil, map-append}
+use Rattle.std.proofs.lemmas.List.Sums.{sum_by-cons}
+use Rattle.std.proofs.lemmas.Bool.Decides.{nat_tests}
+use Rattle.std.specs.FinMap.{get}
+use Rattle.base_types.specs.Coins.{Coins}
+use Rattle.base_types.specs.declared.hash.Hash32.{Hash32}
+use Rattle.base_types.specs.declared.coin.Coin.{Coin}
+use Rattle.base_types.specs.declared.refused.CoinRefused.{CoinRefused}
+use Rattle.base_types.specs.declared.refused.CoinRefused.TheVariants.{Immature, ValueRange, InBelowOut, SequenceLock}
+use Rattle.block_codec.specs.declared.block.TxIn.{TxIn}
+use Rattle.block_codec.specs.declared.block.Tx.{Tx}
+use Rattle.chain_model.specs.Tree.{Tree}
+use Rattle.chain_model.specs.Rules.{first_broken, first_some}
+use Rattle.chain_model.specs.BodyRules.{max_money}
+use Rattle.chain_model.specs.Coins.{and_coins, spent_by, value_of_coins, value_of_outputs}
+use Rattle.chain_model.specs.Apply.{unless, is_immature, coins_broken, fee, is_locked, spending_broken}
+use Rattle.chain_model.specs.Fees.{fees_by}
+use Rattle.chain_model.specs.Seen.{seen}
+
+-- ---- which coins
+
+-- coins before others, if all are there
+abbrev pub behind : List Coin → Option (List Coin) → Option (List Coin)
+behind before others = option_map (λ rest. before ++ rest) others
+
+one_behind : (before : List Coin) (coin : Coin) (others : Option (List Coin)) → behind before (and_coins (Some coin) others) ≡ behind (before ++ coin ∷ []) others
+one_behind before coin None = refl
+one_behind before coin (Some rest) = ap (λ (all : List Coin). Some all) (sym (append_assoc before (coin ∷ []) rest))
+
+module _ (coins : Coins) (inputs : List TxIn) (i : ℕ) (input : TxIn) (within : i < length inputs) (is : input ≡ get_or inputs i input) where
+  at_input : (before : List Coin) → behind before (spent_by coins (drop i inputs)) ≡ behind before (and_coins (get coins input.prev) (spent_by coins (drop (i + 1) inputs)))
+  at_input before =
+      at_drop_more (λ (rest : List TxIn). behind before (spent_by coins rest)) inputs i input within
+      ∙ ap (λ (n : TxIn). behind before (and_coins (get coins n.prev) (spent_by coins (drop (i + 1) inputs)))) (sym is)
+
+  pub input_spent : (before now : List (Bor Coin)) (coin : Bor Coin) → now ≡ before ++ coin ∷ [] → get coins input.prev ≡ Some coin.now → behind (seen now) (spent_by coins (drop (i + 1) inputs)) ≡ behind (seen before) (spent_by coins (drop i inputs))
+  input_spent before now coin next found =
+      ap (λ (cs : List (Bor Coin)). behind (seen cs) (spent_by coins (drop (i + 1) inputs))) next
+      ∙ ap (λ (cs : List Coin). behind cs (spent_by coins (drop (i + 1) inputs))) (map-append (λ (c : Bor Coin). c.now) before (coin ∷ []))
+      ∙ sym (one_behind (seen before) coin.now (spent_by coins (drop (i + 1) inputs)))
+      ∙ ap (λ (o : Option Coin). behind (seen before) (and_coins o (spent_by coins (drop (i + 1) inputs)))) (sym found)
+      ∙ sym (at_input (seen before))
+
+  pub input_missing : (before : List (Bor Coin)) → get coins input.prev ≡ None → behind (seen before) (spent_by coins (drop i inputs)) ≡ None
+  input_missing before missing =
+      at_input (seen before)
+      ∙ ap (λ (o : Option Coin). behind (seen before) (and_coins o (spent_by coins (drop (i + 1) inputs)))) missing
+
+pub all_spent : (coins : Coins) (inputs : List TxIn) (i : ℕ) (before : List (Bor Coin)) → length inputs ≤ i → behind (seen before) (spent_by coins (drop i inputs)) ≡ Some (seen before)
+all_spent coins inputs i before h =
+    at_drop_all (λ (rest : List TxIn). behind (seen before) (spent_by coins rest)) inputs i h
+    ∙ ap (λ (all : List Coin). Some all) (append-nil (seen before))
+
+-- ---- coin by coin
+
+only : (o : Option CoinRefused) → first_some (o ∷ []) ≡ o
+unfolding first_some
+only None = refl
+only (Some rule) = refl
+
+module _ (at before : ℕ) (coin : Coin) (coins : List Coin) where
+  immature_first : is_immature at coin ≡ true → coins_broken at before (coin ∷ coins) ≡ Some Immature
+  unfolding coins_broken first_some first_broken
+  immature_first e = rw e refl
+
+  range_first : is_immature at coin ≡ false → nat_lt max_money (before + coin.value) ≡ true → coins_broken at before (coin ∷ coins) ≡ Some ValueRange
+  unfolding coins_broken first_some first_broken
+  range_first e f = rw (e, f) refl
+
+  fine_first : is_immature at coin ≡ false → nat_lt max_money (before + coin.value) ≡ false → coins_broken at before (coin ∷ coins) ≡ coins_broken at (before + coin.value) coins
+  unfolding coins_broken first_some first_broken
+  fine_first e f = rw (e, f) (only (coins_broken at (before + coin.value) coins))
+
+module _ (at before : ℕ) (coins : List (Bor Coin)) (i : ℕ) (coin : Bor Coin) (within : i < length coins) (is : coin ≡ get_or coins i coin) where
+  at_coin : {A : Type 0} (f : List Coin → A) → f (seen (drop i coins)) ≡ f (coin.now ∷ seen (drop (i + 1) coins))
+  at_coin f =
+      at_drop_more (λ (rest : List (Bor Coin)). f (seen rest)) coins i coin within
+      ∙ ap (λ (c : Bor Coin). f (c.now ∷ seen (drop (i + 1) coins))) (sym is)
+
+  pub immature_at : is_immature at coin.now ≡ true → coins_broken at before (seen (drop i coins)) ≡ Some Immature
+  immature_at e = at_coin (coins_broken at before) ∙ immature_first at before coin.now (seen (drop (i + 1) coins)) e
+
+  pub range_at : is_immature at coin.now ≡ false → max_money < before + coin.now.value → coins_broken at before (seen (drop i coins)) ≡ Some ValueRange
+  range_at e h = at_coin (coins_broken at before) ∙ range_first at before coin.now (seen (drop (i + 1) coins)) e (grind (arith, nat_tests))
+
+  pub fine_at : is_immature at coin.now ≡ false → before + coin.now.value ≤ max_money → coins_broken at (before + coin.now.value) (seen (drop (i + 1) coins)) ≡ coins_broken at before (seen (drop i coins))
+  fine_at e h = sym (at_coin (coins_broken at before) ∙ fine_first at before coin.now (seen (drop (i + 1) coins)) e (grind (arith, nat_tests)))
+
+  pub value_at : value_of_coins (seen (drop i coins)) ≡ coin.now.value + value_of_coins (seen (drop (i + 1) coins))
+  value_at = at_coin value_of_coins ∙ sum_by-cons (λ (c : Coin). c.value) coin.now (seen (drop (i + 1) coins))
+
+pub coins_fine : (at before : ℕ) (coins : List (Bor Coin)) (i : ℕ) → length coins ≤ i → coins_broken at before (seen (drop i coins)) ≡ None
+unfolding coins_broken
+coins_fine at before coins i h = at_drop_all (λ (rest : List (Bor Coin)). coins_broken at before (seen rest)) coins i h
+
+pub no_value_left : (coins : List (Bor Coin)) (i : ℕ) → length coins ≤ i → value_of_coins (seen (drop i coins)) ≡ 0
+no_value_left coins i h = at_drop_all (λ (rest : List (Bor Coin)). value_of_coins (seen rest)) coins i h
+
+-- ---- the rules on a transaction
+
+-- the two rules on sums
+abbrev pub sums : ℕ → ℕ → ℕ → List (Bool × CoinRefused)
+sums fees paid_in paid_out = (nat_lt paid_in paid_out, InBelowOut) ∷ (nat_lt max_money (fees + (paid_in - paid_out)), ValueRange) ∷ []
+
+-- a sum of outputs that stops at 2^64 - 1 serves as well
+as_well : (fees paid_in value : ℕ) → paid_in ≤ max_money → unless (first_broken (sums fees paid_in (min value (2 ^ 64 - 1)))) (fees + (paid_in - min value (2 ^ 64 - 1))) ≡ unless (first_broken (sums fees paid_in value)) (fees + (paid_in - value))
+as_well fees paid_in value h =
+    let rest : paid_in - min value (2 ^ 64 - 1) ≡ paid_in - value = omega arith in
+    let test : nat_lt paid_in (min value (2 ^ 64 - 1)) ≡ nat_lt paid_in value = grind (arith, nat_tests) in
+    ap (λ (n : ℕ). unless (first_broken ((nat_lt paid_in (min value (2 ^ 64 - 1)), InBelowOut) ∷ (nat_lt max_money (fees + n), ValueRange) ∷ [])) (fees + n)) rest
+    ∙ ap (λ (b : Bool). unless (first_broken ((b, InBelowOut) ∷ (nat_lt max_money (fees + (paid_in - value)), ValueRange) ∷ [])) (fees + (paid_in - value))) test
+
+-- the code's sums are those of the coins and of the outputs
+same_sums : (fees paid_in paid_out in_coins in_outputs : ℕ) → paid_in ≡ in_coins → paid_out ≡ min in_outputs (2 ^ 64 - 1) → paid_in ≤ max_money → unless (first_broken (sums fees paid_in paid_out)) (fees + (paid_in - paid_out)) ≡ unless (first_broken (sums fees in_coins in_outputs)) (fees + (in_coins - in_outputs))
+same_sums fees paid_in paid_out in_coins in_outputs ins outs small =
+    ap (λ (n : ℕ). unless (first_broken (sums fees paid_in n)) (fees + (paid_in - n))) outs
+    ∙ as_well fees paid_in in_outputs small
+    ∙ ap (λ (n : ℕ). unless (first_broken (sums fees n in_outputs)) (fees + (n - in_outputs))) ins
+
+ok : ℕ → Result ℕ CoinRefused
+ok n = Ok n
+
+module _ (tree : Tree) (parent : Hash32) (at fees : ℕ) (tx : Tx) (coins : List Coin) where
+  by_rule : (rule : CoinRefused) → spending_broken tree parent at fees tx coins ≡ Some rule → fees_by tree parent at fees tx coins ≡ Err rule
+  by_rule rule e = ap (λ (o : Option CoinRefused). unless o (fees + fee tx coins)) e
+
+  first_refused : (rule : CoinRefused) → coins_broken at 0 coins ≡ Some rule → spending_broken tree parent at fees tx coins ≡ Some rule
+  unfolding first_some
+  first_refused rule e = rw e refl
+
+  pub coins_refused : (rule : CoinRefused) → coins_broken at 0 coins ≡ Some rule → fees_by tree parent at fees tx coins ≡ Err rule
+  coins_refused rule e = by_rule rule (first_refused rule e)
+
+  module _ (fine : coins_broken at 0 coins ≡ None) where
+    passed : spending_broken tree parent at fees tx coins ≡ first_broken ((nat_lt (value_of_coins coins) (value_of_outputs tx.outputs), InBelowOut) ∷ (nat_lt max_money (fees + fee tx coins), ValueRange) ∷ (is_locked tree parent at tx coins, SequenceLock) ∷ [])
+    unfolding first_some
+    passed = rw fine (only _)
+
+    refuses : (a b c : Bool) (n : ℕ) (rule : CoinRefused) → unless (first_broken ((a, InBelowOut) ∷ (b, ValueRange) ∷ [])) n ≡ Err rule → first_broken ((a, InBelowOut) ∷ (b, ValueRange) ∷ (c, SequenceLock) ∷ []) ≡ Some rule
+    unfolding first_broken
+    refuses true b c n rule e = cc
+    refuses false true c n rule e = cc
+    refuses false false c n rule e = cc
+
+    passes : (a b c : Bool) (n m : ℕ) → unless (first_broken ((a, InBelowOut) ∷ (b, ValueRange) ∷ [])) n ≡ Ok m → first_broken ((a, InBelowOut) ∷ (b, ValueRange) ∷ (c, SequenceLock) ∷ []) ≡ first_broken ((c, SequenceLock) ∷ [])
+    unfolding first_broken
+    passes true b c n m e = cc
+    passes false true c n m e = cc
+    passes false false c n m e = refl
+
+    same : (a b : Bool) (n m : ℕ) → unless (first_broken ((a, InBelowOut) ∷ (b, ValueRange) ∷ [])) n ≡ Ok m → n ≡ m
+    unfolding first_broken
+    same true b n m e = cc
+    same false true n m e = cc
+    same false false n m e = cc
+
+    -- the code's sums of the inputs and of the outputs
+    module _ (paid_in paid_out : ℕ) (ins : paid_in ≡ value_of_coins coins) (outs : paid_out ≡ min (value_of_outputs tx.outputs) (2 ^ 64 - 1)) (small : paid_in ≤ max_money) where
+      as_summed : unless (first_broken (sums fees paid_in paid_out)) (fees + (paid_in - paid_out)) ≡ unless (first_broken (sums fees (value_of_coins coins) (value_of_outputs tx.outputs))) (fees + fee tx coins)
+      as_summed = same_sums fees paid_in paid_out (value_of_coins coins) (value_of_outputs tx.outputs) ins outs small
+
+      pub sums_refused : (rule : CoinRefused) → Err rule ≡ unless (first_broken (sums fees paid_in paid_out)) (fees + (paid_in - paid_out)) → Err rule ≡ fees_by tree parent at fees tx coins
+      sums_refused rule e = sym (by_rule rule (passed ∙ refuses _ _ (is_locked tree parent at tx coins) (fees + fee tx coins) rule (sym (e ∙ as_summed))))
+
+      module _ (after : ℕ) (fits : Ok after ≡ unless (first_broken (sums fees paid_in paid_out)) (fees + (paid_in - paid_out))) where
+        locks : spending_broken tree parent at fees tx coins ≡ first_broken ((is_locked tree parent at tx coins, SequenceLock) ∷ [])
+        locks = passed ∙ passes _ _ (is_locked tree parent at tx coins) (fees + fee tx coins) after (sym (fits ∙ as_summed))
+
+        pub lock_refused : is_locked tree parent at tx coins ≡ true → Err SequenceLock ≡ fees_by tree parent at fees tx coins
+        unfolding first_broken
+        lock_refused e = sym (by_rule SequenceLock (locks ∙ ap (λ (b : Bool). first_broken ((b, SequenceLock) ∷ [])) e))
+
+        pub spending_fine : is_locked tree parent at tx coins ≡ false → Ok after ≡ fees_by tree parent at fees tx coins
+        unfolding first_broken ok
+        spending_fine e = sym (
+            ap (λ (o : Option CoinRefused). unless o (fees + fee tx coins)) (locks ∙ ap (λ (b : Bool). first_broken ((b, SequenceLock) ∷ [])) e)
+            ∙ ap ok (same _ _ (fees + fee tx coins) after (sym (fits ∙ as_summed))))

@@ -1,0 +1,16 @@
+use Rattle.std.proofs.Common.{List, Option, ap, sym, ◌∙◌}
+use Rattle.std.specs.FinMap.{entries}
+use Rattle.base_types.specs.Keys.{outpoint_cmp, outpoint_cmp_total}
+use Rattle.base_types.specs.declared.hash.OutPoint.{OutPoint}
+use Rattle.base_types.specs.declared.coin.Coin.{Coin}
+use Rattle.chain_model.specs.Changes.{Changes, changed_by}
+use Rattle.chain_model.proofs.Entries.{entries_in_order}
+use Rattle.chain_model.proofs.changes.Changes.merge_into.Goals as goal
+
+pub loop-key-init : goal.loop-key-init
+loop-key-init c =
+    let gives = c.into_iter-key-iterator.ensures.into_iter_gives in
+    ap (λ (es : List (OutPoint × Option Coin)). changed_by c.args.coins.now es)
+    (gives.0
+    ∙ sym (entries_in_order outpoint_cmp outpoint_cmp_total c.self.inside.changed.entries gives.5)
+    ∙ ap (λ (changes : Changes). entries changes) c.self.view_is)

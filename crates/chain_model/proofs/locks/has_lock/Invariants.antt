@@ -1,0 +1,13 @@
+use Rattle.std.proofs.Common.{◌≡◌}
+use Rattle.std.specs.Slice.Iter.{iter_rest}
+use Rattle.std.specs.Iterator.Adapters.{zip_first, zip_second}
+use Rattle.chain_model.specs.Apply.{has_lock}
+use Rattle.chain_model.specs.Seen.{seen}
+use Rattle.chain_model.proofs.locks.has_lock.Given as goal
+
+abbrev pub invariant-loop-input : goal.invariant-loop-input
+invariant-loop-input g l =
+    (goal.iterator-loop-input g).can_next l.input-iterator ×
+    (goal.iterator-loop-input g).is_finite l.input-iterator ×
+    (has_lock (g.T.TreeView.tree l.standing.tree.now) l.standing.parent.now l.standing.height (iter_rest (zip_first l.input-iterator)) (seen (iter_rest (zip_second l.input-iterator)))
+    ≡ has_lock (g.T.TreeView.tree l.standing.tree.now) l.standing.parent.now l.standing.height l.inputs (seen l.spent))

@@ -1,0 +1,11 @@
+use Rattle.std.proofs.Common.{ap, ◌∙◌}
+use Rattle.std.specs.FinMap.{insert}
+use Rattle.base_types.specs.Keys.{outpoint_cmp, outpoint_cmp_total, outpoint_cmp-IsAntisymmetric}
+use Rattle.base_types.specs.Coins.{Coins}
+use Rattle.chain_model.proofs.Entries.{put_entry}
+use Rattle.chain_model.proofs.plain.Plain.put.Goals as goal
+
+pub returns-clause-ok : goal.returns-clause-ok
+returns-clause-ok c =
+    put_entry outpoint_cmp outpoint_cmp_total outpoint_cmp-IsAntisymmetric c.self.inside.coins c.insert.new.self c.args.key c.args.coin c.in_ok-insert.ensures.updates
+    ∙ ap (λ (coins : Coins). insert coins c.args.key c.args.coin) c.self.view_is

@@ -1,0 +1,20 @@
+-- Outpoints and coins as tuples, by which proofs tell values apart that hold maps of coins.
+use Rattle.std.specs.Prelude.{ℕ, Bool, List, refl}
+use Rattle.std.specs.Coded.{Coded, code_by, coded×, coded_ℕ, coded_bool, coded_list}
+use Rattle.std.specs.FinMap as finite
+use Rattle.base_types.specs.Coins.{Coins}
+use Rattle.base_types.specs.declared.hash.OutPoint.{OutPoint}
+use Rattle.base_types.specs.declared.coin.Coin.{Coin}
+
+abbrev pub outpoint_code : Coded OutPoint
+outpoint_code =
+    code_by (List ℕ × ℕ) (coded× (coded_list coded_ℕ) coded_ℕ) (λ o. (o.txid.bytes, o.index))
+    (λ p. record { txid = record { bytes = p.0 }; index = p.1 }) (λ _. refl)
+
+abbrev pub coin_code : Coded Coin
+coin_code =
+    code_by ((ℕ × List ℕ) × (ℕ × Bool)) (coded× (coded× coded_ℕ (coded_list coded_ℕ)) (coded× coded_ℕ coded_bool)) (λ c. ((c.value, c.script), (c.height, c.coinbase)))
+    (λ p. record { value = p.0.0; script = p.0.1; height = p.1.0; coinbase = p.1.1 }) (λ _. refl)
+
+abbrev pub coins_code : Coded Coins
+coins_code = finite.code outpoint_code coin_code

@@ -1,0 +1,4 @@
+pub mod Above
+pub mod Answers
+pub mod Kept
+pub mod State

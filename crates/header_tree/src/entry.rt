@@ -1,0 +1,16 @@
+//! A header and its place in the tree.
+
+use base_types::Hash32;
+use block_codec::Header;
+
+/// An accepted header. Others are named by their numbers in the order of acceptance.
+#[derive(Clone, Copy, Debug)]
+pub struct Entry {
+    pub header: Header,
+    pub hash: Hash32,
+    pub height: u32,
+    /// The number of the header before it; of genesis its own.
+    pub parent: u32,
+    /// The number of an ancestor further down, by which long ways take few steps; of genesis its own.
+    pub skip: u32,
+}

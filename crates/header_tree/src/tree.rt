@@ -1,0 +1,144 @@
+//! The tree of headers: what it holds, and what it answers of one block.
+
+ghost use Rattle.std.specs.Prelude.{◌≡◌, ◌<◌, Some, length, slice_get, is_some, IfOk, IfSome};
+ghost use Rattle.std.specs.Option.{option_copied};
+ghost use Rattle.std.specs.FinMap as finite;
+ghost use Rattle.chain_model.specs.Tree.{of_member, height as height_of};
+ghost use Rattle.chain_model.specs.HeaderRules.{IsTree};
+ghost use Rattle.header_tree.specs.State.{first_state, IsGrown, IsListing};
+
+use crate::entry::Entry;
+use crate::numbers::Numbers;
+use base_types::{Hash32, Limits, Rules};
+use block_codec::{Header, block_hash};
+use std::alloc::{AllocError, Global};
+use std::marker::Model;
+
+/// The first header of regtest.
+const GENESIS: Header = Header {
+    version: 1,
+    prev: Hash32 { bytes: [0; 32] },
+    root: Hash32 {
+        bytes: [
+            0x3b, 0xa3, 0xed, 0xfd, 0x7a, 0x7b, 0x12, 0xb2, 0x7a, 0xc7, 0x2c, 0x3e, 0x67, 0x76,
+            0x8f, 0x61, 0x7f, 0xc8, 0x1b, 0xc3, 0x88, 0x8a, 0x51, 0x32, 0x3a, 0x9f, 0xb8, 0xaa,
+            0x4b, 0x1e, 0x5e, 0x4a,
+        ],
+    },
+    time: 1_296_688_602,
+    bits: 0x207f_ffff,
+    nonce: 2,
+};
+
+/// The headers that were accepted, genesis first. A header takes some 190 bytes.
+#[derive(Drop)]
+pub struct Tree {
+    pub(crate) entries: Vec<Entry>,
+    pub(crate) numbers: Numbers,
+    pub(crate) limit: u32,
+    pub(crate) rules: Rules,
+}
+
+impl Model for Tree {
+    ghost use Rattle.header_tree.specs.State.{State, state_code};
+
+    ghost Value = { State };
+
+    ghost coded = { state_code };
+
+    ghost use Rattle.header_tree.specs.Kept.{state_of, IsKept};
+
+    ghost view = { λ t. state_of t.entries.items t.limit t.rules };
+
+    ghost invariant = { λ t. IsKept t.entries.items t.numbers t.limit t.rules };
+}
+
+impl Tree {
+    /// The tree of genesis alone, which may hold so many headers with it, under these rules.
+    pub fn new(alloc: Global, limits: &Limits, rules: &Rules) -> Result<Tree, AllocError>
+        ensures first { IfOk result (λ tree. tree ≡ first_state limits.now.headers rules.now) }
+        ensures grown { IfOk result (λ tree. IsTree tree.limit tree.tree) }
+    {
+        let hash = block_hash(&GENESIS);
+        let mut entries = Vec::new(alloc);
+        let mut numbers = Numbers::new(alloc);
+        numbers.insert(hash, 0)?;
+        entries.push(Entry {
+            header: GENESIS,
+            hash,
+            height: 0,
+            parent: 0,
+            skip: 0,
+        })?;
+        Ok(Tree {
+            entries,
+            numbers,
+            limit: limits.headers,
+            rules: *rules,
+        })
+    }
+
+    /// The number of headers, with genesis.
+    pub fn size(&self) -> u32
+        ensures count { result ≡ finite.len self.now.tree.headers }
+        ensures listed { result ≡ length self.now.order }
+        ensures grown { IsTree self.now.limit self.now.tree }
+    {
+        self.entries.len() as u32
+    }
+
+    /// The hash that was accepted after so many others; genesis is the first. None where there are no more.
+    pub fn at(&self, number: u32) -> Option<Hash32>
+        ensures hash { result ≡ slice_get self.now.order number }
+
+        // The order has each member once, and only what was accepted after what stands before it.
+        ensures listing { IsListing self.now.tree.headers self.now.order }
+        ensures grown { IsGrown self.now }
+    {
+        match self.entries.get(number as usize) {
+            Some(entry) => Some(entry.hash),
+            None => None,
+        }
+    }
+
+    /// The heights from which four rules hold.
+    pub fn rules(&self) -> &Rules
+        ensures { result.now ≡ self.now.tree.rules }
+    {
+        &self.rules
+    }
+
+    /// The number of a hash in the order of acceptance. The last one is asked for most, since headers mostly come in
+    /// the order of a chain.
+    pub(crate) fn number(&self, hash: &Hash32) -> Option<u32>
+        ensures there { IfSome result (λ number. slice_get self.now.order number ≡ Some hash.now) }
+        ensures known { is_some result ≡ finite.contains_key self.now.tree.headers hash.now }
+    {
+        let last = self.entries.len() - 1;
+        if self.entries[last].hash == *hash {
+            Some(last as u32)
+        } else {
+            self.numbers.get(hash)
+        }
+    }
+
+    /// The header of this hash.
+    pub fn header(&self, hash: &Hash32) -> Option<&Header>
+        ensures { option_copied result ≡ finite.get self.now.tree.headers hash.now }
+    {
+        match self.numbers.get(hash) {
+            Some(number) => Some(&self.entries[number as usize].header),
+            None => None,
+        }
+    }
+
+    /// The number of blocks below it.
+    pub fn height(&self, hash: &Hash32) -> Option<u32>
+        ensures { result ≡ of_member self.now.tree.headers hash.now (height_of self.now.tree.headers hash.now) }
+    {
+        match self.numbers.get(hash) {
+            Some(number) => Some(self.entries[number as usize].height),
+            None => None,
+        }
+    }
+}

@@ -1,0 +1,3 @@
+pub mod Digits
+pub mod FieldsOfLines
+pub mod JsonTexts

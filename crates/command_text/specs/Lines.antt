@@ -1,11 +1,11 @@
 -- Lines of the input, and the commands that they are.
 use Rattle.std.specs.Prelude.{ℕ, ◌==◌, ◌&&◌, not, Bool, List, [], ◌∷◌, length, reverse, bytes_eq, codes, nat_le, nat_lt, if◌then◌else◌, Option, Some, None, Result, Ok, Err, cond}
 use Rattle.std.specs.Char.{is_ascii_digit}
-use Rattle.std.specs.Int.{is_in_range}
 use Rattle.std.specs.List.{list_all}
 use Rattle.std.specs.Result.{result_ok}
 use Rattle.std.specs.Str.Parse.{digits_value}
 use Rattle.hex.specs.Hex.{decode_sized}
+use Rattle.command_text.specs.FileNames.{is_name}
 use Rattle.command_text.specs.declared.line.Line.{Line}
 use Rattle.command_text.specs.declared.line.Line.TheVariants.{Empty, Fold, Headers, Import, Generate, Flush, GetTxOut, Info}
 use Rattle.command_text.specs.declared.line.LineRefused.{LineRefused}
@@ -31,10 +31,7 @@ without_return (byte ∷ next ∷ bytes) = byte ∷ without_return (next ∷ byt
 
 -- ---- the fields of a line
 
--- FILE: 1 to 200 bytes from 21 to 7e
-abbrev pub is_name : List ℕ → Bool
-is_name field = not (length field == 0) && nat_le (length field) 200 && list_all (is_in_range 33 126) field
-
+-- FILE
 abbrev pub name_of : List ℕ → Result (List ℕ) LineRefused
 name_of field = if is_name field then Ok field else Err BadName
 

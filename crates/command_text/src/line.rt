@@ -2,6 +2,7 @@
 
 use crate::name::Name;
 use base_types::OutPoint;
+use std::alloc::AllocError;
 
 /// What a line of the input asks for. Block files may be covered with a key of eight bytes.
 #[derive(Debug, Drop)]
@@ -50,4 +51,26 @@ pub enum LineRefused {
 pub enum LineFault {
     NoMemory,
     Refused(LineRefused),
+}
+
+impl From<LineRefused> for LineFault {
+    ghost use Rattle.std.specs.Prelude.{◌≡◌};
+    ghost use Rattle.command_text.specs.declared.line.LineFault.TheVariants.{Refused};
+
+    ghost from_gives = { λ why fault. fault ≡ Refused why };
+
+    fn from(why: LineRefused) -> LineFault {
+        LineFault::Refused(why)
+    }
+}
+
+impl From<AllocError> for LineFault {
+    ghost use Rattle.std.specs.Prelude.{◌≡◌};
+    ghost use Rattle.command_text.specs.declared.line.LineFault.TheVariants.{NoMemory};
+
+    ghost from_gives = { λ _ fault. fault ≡ NoMemory };
+
+    fn from(_: AllocError) -> LineFault {
+        LineFault::NoMemory
+    }
 }

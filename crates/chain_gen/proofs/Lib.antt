@@ -1,0 +1,5 @@
+pub mod Ending
+pub mod Heights
+pub mod Making
+pub mod Nonces
+pub mod Targets

@@ -2,6 +2,11 @@
 use Rattle.std.proofs.Common.{◌≡◌, ◌≢◌, ◌⊎◌, inl, inr, ℕ, zero, suc, cond, List, [], ◌∷◌, map, length, get_or, Option, Some, None, refl, sym, ap, ◌∙◌, subst}
 use Rattle.std.specs.Ordering.{nat_cmp}
 use Rattle.std.specs.FinMap.{FinMap, get, empty, insert, remove, get-empty, get-insert, get-remove, same_map}
+use Rattle.std.proofs.lemmas.Bool.{cases_eq}
+use Rattle.slot_pool.specs.ChangeLaws.{kept_value}
+use Rattle.slot_pool.specs.Changes.{ChangesOnly}
+use Rattle.slot_pool.specs.Pool.{Contents}
+use Rattle.slot_pool.specs.SlotLaws.{get_here, get_off, get_beside, removed_off}
 use Rattle.slot_pool.specs.Slots.{first_or, IsIn}
 use Rattle.base_types.specs.Keys.{outpoint_cmp, outpoint_cmp_total, outpoint_cmp-IsAntisymmetric, outpoint_ties, tied_same, tied_not, cases_key}
 use Rattle.base_types.specs.declared.hash.OutPoint.{OutPoint}
@@ -65,9 +70,47 @@ module _ {T : Type 0} (key : T → OutPoint) (chain : T → Option ℕ) where
       present = λ k s e. let p = h.present k s e in let y = same k s p.1.0 e p.1.1 in (p.0, (y.0, y.1, y.2 ∙ p.1.2));
     }
 
+  module _ (m : FinMap nat_cmp T) (i : Index) (found : FinMap outpoint_cmp ℕ) (h : IsIndex key chain m i found) where
+    -- a value is put into a new slot
+    pub index_put : (t : ℕ) (w : T) → get m t ≡ None → IsIndex key chain (insert m t w) i found
+    index_put t w new = index_kept m (insert m t w) i found h (λ k s x f e. (x, get_beside m t w s x new e, refl, refl))
+
+    -- and may then be linked, where its key isn't found
+    pub link_ready : (t : ℕ) (w : T) → get m t ≡ None → get found (key w) ≡ None → (x : T) → get (insert m t w) t ≡ Some x → get found (key x) ≡ None
+    link_ready t w new none x e = let one : w ≡ x = cc (get_here m t w, e) in ap (λ y. get found (key y)) (sym one) ∙ none
+
+    -- a value is taken out of a slot that isn't found
+    pub index_take : (t : ℕ) → ((k : OutPoint) → get found k ≢ Some t) → IsIndex key chain (remove m t) i found
+    index_take t out = index_kept m (remove m t) i found h (λ k s x f e. (x, removed_off m t s (λ g. out k (f ∙ ap Some g)) ∙ e, refl, refl))
+
+    -- a value is written over one with the same key and link
+    pub index_write : (t : ℕ) (x w : T) → get m t ≡ Some x → key w ≡ key x → chain w ≡ chain x → IsIndex key chain (insert m t w) i found
+    index_write t x w at same link = index_kept m (insert m t w) i found h (λ k s y f e. go s y e (cases_eq s t)) where
+      go : (s : ℕ) (y : T) → get m s ≡ Some y → (s ≡ t) ⊎ (s ≡ t → ⊥) → (z : T) × (get (insert m t w) s ≡ Some z) × (key z ≡ key y) × (chain z ≡ chain y)
+      go s y e (inl f) = let one : x ≡ y = cc (at, e, f) in (w, ap (get (insert m t w)) f ∙ get_here m t w, same ∙ ap key one, link ∙ ap chain one)
+      go s y e (inr ne) = (y, get_off m t w s ne ∙ e, refl, refl)
+
+  -- another structure changes its part of the values, which is neither the key nor the link
+  pub index_beside : {L : Type 0} (set : T → L → T) → ((x : T) (l : L) → key (set x l) ≡ key x) → ((x : T) (l : L) → chain (set x l) ≡ chain x) → (p n : Contents T) → ChangesOnly set p n → (i : Index) (found : FinMap outpoint_cmp ℕ) → IsIndex key chain p.values i found → IsIndex key chain n.values i found
+  index_beside set same link p n c i found h = index_kept p.values n.values i found h (λ k s x f e. let v = kept_value set p n s x c e in (set x v.0, v.1, same x v.0, link x v.0))
+
   -- what is found holds a value with that key
   pub found_held : (m : FinMap nat_cmp T) (i : Index) (found : FinMap outpoint_cmp ℕ) (k : OutPoint) (s : ℕ) → IsIndex key chain m i found → get found k ≡ Some s → (x : T) × (get m s ≡ Some x) × (key x ≡ k)
   found_held m i found k s h e = (h.present k s e).1
+
+  module _ (m : FinMap nat_cmp T) (i : Index) (found : FinMap outpoint_cmp ℕ) (h : IsIndex key chain m i found) where
+    -- a slot is found by one key
+    pub key_once : (k q : OutPoint) (s : ℕ) → get found k ≡ Some s → get found q ≡ Some s → q ≡ k
+    key_once k q s e f =
+        let x = found_held m i found k s h e in let y = found_held m i found q s h f in let one : x.0 ≡ y.0 = cc (x.1, y.1) in
+        sym y.2 ∙ sym (ap key one) ∙ x.2
+
+    -- and by none where that key is taken away
+    pub found_no_more : (k : OutPoint) (s : ℕ) → get found k ≡ Some s → (q : OutPoint) → get (remove found k) q ≢ Some s
+    found_no_more k s e q f = go (same_key_or_not q k) where
+      go : (q ≡ k) ⊎ (q ≡ k → ⊥) → ⊥
+      go (inl one) = let c : None ≡ Some s = sym (gone_here found k) ∙ ap (get (remove found k)) (sym one) ∙ f in cc
+      go (inr ne) = ne (key_once k q s e (sym (gone_off found k q ne) ∙ f))
 
   chains_once : (m : FinMap nat_cmp T) (ss ts : List ℕ) → AreChained key chain m ss → AreChained key chain m ts → first_or None ss ≡ first_or None ts → ss ≡ ts
   chains_once m [] [] h k e = refl

@@ -8,3 +8,6 @@ mod index;
 
 pub use chained::Chained;
 pub use index::Index;
+
+#[cfg(test)]
+mod tests;

@@ -1,0 +1,16 @@
+pub mod Answering
+pub mod Completing
+pub mod DumpLaws
+pub mod Ending
+pub mod Feeding
+pub mod Growing
+pub mod Growth
+pub mod HeadLaws
+pub mod ItemFaults
+pub mod ItemLaws
+pub mod ItemsGrow
+pub mod Moving
+pub mod Steps
+pub mod Taking
+pub mod WholeFiles
+pub mod Within

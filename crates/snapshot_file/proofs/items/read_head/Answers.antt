@@ -1,0 +1,9 @@
+use Rattle.std.proofs.Common.{sym, ap, ◌∙◌}
+use Rattle.base_types.specs.Reading.{Input}
+use Rattle.base_types.specs.Codec.{IsBytes-slice}
+use Rattle.snapshot_file.specs.Items.{head_at}
+use Rattle.snapshot_file.proofs.ItemLaws.{head_read}
+use Rattle.snapshot_file.proofs.items.read_head.Goals as goal
+
+pub returns : goal.returns
+returns c = head_read c.args.bytes.now c.new.result c.head_of.result c.head_of.new.cursor (IsBytes-slice c.args.bytes.now c.type_inv.bytes) c.new.ensures c.head_of.ensures

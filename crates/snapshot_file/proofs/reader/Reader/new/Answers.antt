@@ -1,0 +1,10 @@
+use Rattle.std.proofs.Common.{arith, ap, length, refl}
+use Rattle.snapshot_file.proofs.HeadLaws.{head_none}
+use Rattle.snapshot_file.proofs.reader.Reader.new.Goals as goal
+
+pub returns : goal.returns
+returns c = record {
+  bytes = λ i. omega arith;
+  count = omega (arith, ap length c.new.ensures.items);
+  stands = record { all = c.new.ensures.items; no_height = refl; waits = head_none };
+}

@@ -1,0 +1,7 @@
+mod Adding
+mod Finding
+mod HashSteps
+mod HeaderSteps
+mod Lookups
+mod Opened
+mod Undoing

@@ -1,0 +1,9 @@
+pub mod Bodies
+pub mod Headers
+pub mod Index
+pub mod IndexLaws
+pub mod OpenStore
+pub mod Opening
+pub mod PayloadLaws
+pub mod Reading
+pub mod StoreLaws

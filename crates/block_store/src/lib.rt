@@ -1,0 +1,13 @@
+//! The block store: headers in a log of their own, and the bodies of blocks in another, by the hashes of their blocks.
+#![tactic(auto)]
+
+mod body_index;
+mod header_list;
+mod kind;
+mod opening;
+mod payloads;
+mod records;
+mod store;
+
+pub use header_list::{HeaderList, HeaderRecord};
+pub use store::BlockStore;

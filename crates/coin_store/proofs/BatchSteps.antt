@@ -1,0 +1,156 @@
+-- One row after the other: the places so far, and what was read so far.
+use Rattle.std.specs.Prelude.{◌≡◌, ℕ, ◌+◌, ◌-◌, ◌<◌, ◌≤◌, List, [], ◌∷◌, ◌++◌, length, take, drop, Some, None, refl}
+use Rattle.std.specs.List.{AllByRecursion}
+use Rattle.std.specs.FinMap.{insert, remove}
+use Rattle.std.proofs.Common.{sym, ap, ◌∙◌, append_assoc, arith}
+use Rattle.std.proofs.lemmas.List.{length-append, length-take, length-drop, drop_at, drop_all, drop-drop, take_all}
+use Rattle.std.proofs.lemmas.List.Concat.{flat_map-append}
+use borrow.Rule.Slice.PartMut.{put_mid, same_len_mid}
+use Rattle.coin_codec.specs.KeyText.{key_text}
+use Rattle.coin_store.specs.declared.marker.Marker.{Marker}
+use Rattle.coin_store.specs.declared.places.CoinPlace.{CoinPlace}
+use Rattle.coin_store.specs.declared.row.RowHead.{RowHead}
+use Rattle.coin_store.specs.declared.row.RowFault.{RowFault}
+use Rattle.coin_store.specs.declared.row.RowFault.TheVariants.{NoMemory, Broken}
+use Rattle.coin_store.specs.Batches.{Row, covered, value_text, head_text, row_text, rows_text, marker_text, batch_text, RowFits}
+use Rattle.coin_store.specs.BatchLaws.{marker_takes, batch_stuck}
+use Rattle.coin_store.specs.BatchReads.{NotesRow, HasBatch, IsReadTo}
+use Rattle.coin_store.specs.Places.{CoinPlaces, put, place_of, places_after_rows}
+use Rattle.coin_store.specs.Reading.{marker_of, row_of, batch_of}
+use Rattle.coin_store.specs.RowLaws.{length-coin_text, length-covered}
+use Rattle.coin_store.specs.Rows.{IsRow, IsBroken, IsBrokenBy}
+
+-- ---- one row's place
+
+module _ (file gate offset : ℕ) (row : RowHead) (old new : CoinPlaces) where
+  pub noted_none : row.len ≡ 0 → new ≡ remove old row.key → NotesRow file gate offset row old new
+  unfolding value_text
+  noted_none none is None fits len from = is
+  noted_none none is (Some coin) fits len from = absurd (omega (arith, (length-coin_text coin fits).0))
+
+  pub noted_some : (place : CoinPlace) → place ≡ record { gate = gate; at = gate + 5 + offset + row.from; len = row.len; file = file } → (row.len ≡ 0 → ⊥) → new ≡ insert old row.key place
+      → NotesRow file gate offset row old new
+  unfolding value_text
+  noted_some place made some is None fits len from = absurd (some len)
+  noted_some place made some is (Some coin) fits len from =
+      let begins : row.from ≡ length (head_text row.key (length (value_text (Some coin)))) = from ∙ ap (λ (n : ℕ). length (head_text row.key n)) len in
+      let place_is : place ≡ record { gate = gate; at = gate + 5 + offset + length (head_text row.key (length (value_text (Some coin)))); len = length (value_text (Some coin)); file = file } =
+      made ∙ (λ i. record { gate = gate; at = gate + 5 + offset + begins i; len = len i; file = file }) in
+      is ∙ ap (λ (p : CoinPlace). insert old row.key p) place_is
+
+-- ---- one row more
+
+zero_more : (n : ℕ) → n ≡ n + 0
+zero_more n = omega arith
+
+pub places_push : (file : ℕ) (mask : List ℕ) (gate offset : ℕ) (places : CoinPlaces) (rows : List Row) (row : Row)
+    → places_after_rows file mask gate offset places (rows ++ row ∷ []) ≡ put (places_after_rows file mask gate offset places rows) row.key (place_of file gate (offset + length (rows_text mask rows)) row)
+places_push file mask gate offset places [] row = ap (λ (n : ℕ). put places row.key (place_of file gate n row)) (zero_more offset)
+places_push file mask gate offset places (first ∷ rows) row =
+    let after = put places first.key (place_of file gate offset first) in
+    let reach : offset + length (row_text mask first) + length (rows_text mask rows) ≡ offset + length (rows_text mask (first ∷ rows)) = omega (arith, length-append (row_text mask first) (rows_text mask rows)) in
+    places_push file mask gate (offset + length (row_text mask first)) after rows row
+    ∙ ap (λ (n : ℕ). put (places_after_rows file mask gate (offset + length (row_text mask first)) after rows) row.key (place_of file gate n row)) reach
+
+all_push : (rows : List Row) (row : Row) → AllByRecursion RowFits rows → RowFits row → AllByRecursion RowFits (rows ++ row ∷ [])
+all_push [] row fits fit = (fit, tt)
+all_push (first ∷ rows) row fits fit = (fits.0, all_push rows row fits.1 fit)
+
+append_nil : (xs : List ℕ) → xs ++ [] ≡ xs
+append_nil [] = refl
+append_nil (x ∷ xs) = ap (λ (l : List ℕ). x ∷ l) (append_nil xs)
+
+text_push : (mask : List ℕ) (rows : List Row) (row : Row) → rows_text mask (rows ++ row ∷ []) ≡ rows_text mask rows ++ row_text mask row
+text_push mask rows row = flat_map-append (row_text mask) rows (row ∷ []) ∙ ap (λ (t : List ℕ). rows_text mask rows ++ t) (append_nil (row_text mask row))
+
+length_row : (mask : List ℕ) (row : Row) → length (row_text mask row) ≡ length (head_text row.key (length (value_text row.coin))) + length (value_text row.coin)
+unfolding row_text
+length_row mask row = omega (arith, length-append (head_text row.key (length (value_text row.coin))) (covered mask (value_text row.coin)), length-covered 0 mask (value_text row.coin))
+
+module _ (file gate : ℕ) (mask payload : List ℕ) (marker : Marker) (old : CoinPlaces) where
+  pub read_none : (rest : List ℕ) (at : ℕ) → marker_of payload ≡ Some (marker, rest) → at ≡ length payload - length rest → IsReadTo file gate mask payload marker at old old
+  read_none rest at is reach =
+      let t = marker_takes payload marker rest is in
+      let begins : at ≡ length (marker_text marker) = omega (arith, reach, ap length t.0, length-append (marker_text marker) rest) in
+      let behind : drop at payload ≡ rest = ap (λ (n : ℕ). drop n payload) begins ∙ ap (λ (b : List ℕ). drop (length (marker_text marker)) b) t.0 ∙ drop_at (marker_text marker) rest (length (marker_text marker)) refl in
+      record {
+        rows = [];
+        marked = t.1;
+        fit = tt;
+        parts = t.0 ∙ ap (λ (b : List ℕ). marker_text marker ++ b) (sym behind);
+        reach = begins ∙ zero_more (length (marker_text marker));
+        places = refl;
+      }
+
+  pub read_more : (at : ℕ) (before after : CoinPlaces) (row : RowHead) → IsReadTo file gate mask payload marker at old before → IsRow mask (drop at payload) row → NotesRow file gate at row before after
+      → IsReadTo file gate mask payload marker (at + (row.from + row.len)) old after
+  read_more at before after row r this notes =
+      let whole : Row = record { key = row.key; coin = this.coin } in
+      let behind = drop (row.from + row.len) (drop at payload) in
+      let front = rows_text mask r.rows in
+      let begins : row.from ≡ length (head_text row.key (length (value_text this.coin))) = this.from ∙ ap (λ (n : ℕ). length (head_text row.key n)) this.len in
+      let size : length (row_text mask whole) ≡ row.from + row.len = omega (arith, length_row mask whole, begins, this.len) in
+      let further : behind ≡ drop (at + (row.from + row.len)) payload = drop-drop (row.from + row.len) at payload in
+      record {
+        rows = r.rows ++ whole ∷ [];
+        marked = r.marked;
+        fit = all_push r.rows whole r.fit this.fits;
+        parts = r.parts
+            ∙ ap (λ (b : List ℕ). marker_text marker ++ (front ++ b)) this.parts
+            ∙ ap (λ (b : List ℕ). marker_text marker ++ b) (sym (append_assoc front (row_text mask whole) behind))
+            ∙ ap (λ (b : List ℕ). marker_text marker ++ (b ++ behind)) (sym (text_push mask r.rows whole))
+            ∙ ap (λ (b : List ℕ). marker_text marker ++ (rows_text mask (r.rows ++ whole ∷ []) ++ b)) further;
+        reach = omega (arith, r.reach, size, ap length (text_push mask r.rows whole), length-append front (row_text mask whole));
+        places = notes this.coin this.fits.value this.len this.from
+            ∙ ap (λ (p : CoinPlaces). put p row.key (place_of file gate at whole)) r.places
+            ∙ ap (λ (n : ℕ). put (places_after_rows file mask gate (length (marker_text marker)) old r.rows) row.key (place_of file gate n whole)) r.reach
+            ∙ sym (places_push file mask gate (length (marker_text marker)) old r.rows whole);
+      }
+
+  pub read_all : (at : ℕ) (new : CoinPlaces) → IsReadTo file gate mask payload marker at old new → length payload ≤ at → HasBatch file gate mask payload old new marker
+  unfolding batch_text
+  read_all at new r over =
+      let front = rows_text mask r.rows in
+      record {
+        batch = record { marker = marker; rows = r.rows };
+        is = r.parts ∙ ap (λ (b : List ℕ). marker_text marker ++ (front ++ b)) (drop_all at payload over) ∙ ap (λ (b : List ℕ). marker_text marker ++ b) (append_nil front);
+        fits = record { marker = r.marked; rows = r.fit };
+        marked = refl;
+        places = r.places;
+      }
+
+  pub read_stuck : (at : ℕ) (new : CoinPlaces) → IsReadTo file gate mask payload marker at old new → at < length payload → row_of mask (drop at payload) ≡ None → batch_of mask payload ≡ None
+  read_stuck at new r within stuck =
+      ap (λ (b : List ℕ). batch_of mask b) r.parts ∙ batch_stuck mask marker r.rows (drop at payload) r.marked r.fit (omega (arith, length-drop at payload)) stuck
+
+-- ---- a row is uncovered where it stands
+
+pub row_grows : (mask bytes : List ℕ) (row : RowHead) → IsRow mask bytes row → 0 < row.from + row.len
+unfolding head_text key_text
+row_grows mask bytes row r = omega (arith, r.from)
+
+pub later_stays : (at n : ℕ) (old now bytes : List ℕ) → at ≤ length now → drop at now ≡ drop at old → length bytes ≡ length (drop at now) → drop n bytes ≡ drop n (drop at now)
+    → drop (at + n) (put_mid at (length now - at) now bytes) ≡ drop (at + n) old
+later_stays at n old now bytes within behind size same =
+    let none : drop (length now - at) (drop at now) ≡ [] = drop_all (length now - at) (drop at now) (omega (arith, length-drop at now)) in
+    let front : length (take at now) ≡ at = omega (arith, length-take at now) in
+    let whole = put_mid at (length now - at) now bytes in
+    let from_at : drop at whole ≡ bytes ++ drop (length now - at) (drop at now) = drop_at (take at now) (bytes ++ drop (length now - at) (drop at now)) at front in
+    sym (drop-drop n at whole)
+    ∙ ap (λ (l : List ℕ). drop n l) from_at
+    ∙ ap (λ (l : List ℕ). drop n (bytes ++ l)) none
+    ∙ ap (λ (l : List ℕ). drop n l) (append_nil bytes)
+    ∙ same
+    ∙ ap (λ (l : List ℕ). drop n l) behind
+    ∙ drop-drop n at old
+
+pub nearer_end : (at n : ℕ) (now bytes : List ℕ) → at < length now → 0 < n → length bytes ≡ length (take (length now - at) (drop at now)) → length (put_mid at (length now - at) now bytes) - (at + n) < length now - at
+nearer_end at n now bytes within some size = omega (arith, same_len_mid at (length now - at) now bytes size)
+
+pub part_is : (at : ℕ) (old now : List ℕ) → drop at now ≡ drop at old → take (length now - at) (drop at now) ≡ drop at old
+part_is at old now behind = take_all (length now - at) (drop at now) (omega (arith, length-drop at now)) ∙ behind
+
+pub faulty_batch : (file gate : ℕ) (mask payload : List ℕ) (marker : Marker) (old : CoinPlaces) (at : ℕ) (new : CoinPlaces) → IsReadTo file gate mask payload marker at old new → at < length payload
+    → (part : List ℕ) → part ≡ drop at payload → (fault : RowFault) → IsBroken mask part fault → IsBrokenBy (batch_of mask payload ≡ None) fault
+faulty_batch file gate mask payload marker old at new r within part is NoMemory b = tt
+faulty_batch file gate mask payload marker old at new r within part is Broken b = read_stuck file gate mask payload marker old at new r within (ap (row_of mask) (sym is) ∙ b)

@@ -1,0 +1,36 @@
+-- A batch by example: the coin of height 1 of a coinbase, 5,000,000,000 satoshis to the script 51, at the first output of a
+-- transaction, after a tip.
+use Rattle.std.specs.Prelude.{◌≡◌, ℕ, List, [], ◌∷◌, ◌++◌, length, replicate, Some, true, refl}
+use Rattle.base_types.specs.Bytes.{compact, varint, marked}
+use Rattle.base_types.specs.declared.hash.Hash32.{Hash32}
+use Rattle.coin_codec.specs.Amount.{amount_code, code_of, tens, left}
+use Rattle.coin_codec.specs.CoinText.{coin_text}
+use Rattle.coin_codec.specs.KeyText.{key_text}
+use Rattle.coin_codec.specs.ScriptForm.{script_form, short_form, between}
+use Rattle.coin_store.specs.declared.marker.Marker.TheVariants.{At}
+use Rattle.coin_store.specs.Batches.{Row, covered_from, value_text, head_text, row_text, marker_text, batch_text}
+
+abbrev the_row : Row
+the_row = record {
+  key = record { txid = record { bytes = replicate 32 0x11 }; index = 0 };
+  coin = Some (record { value = 5_000_000_000; script = 0x51 ∷ []; height = 1; coinbase = true });
+}
+
+abbrev the_tip : Hash32
+the_tip = record { bytes = replicate 32 0x22 }
+
+abbrev no_mask : List ℕ
+no_mask = replicate 8 0
+
+pub the_batch : batch_text no_mask (record { marker = At the_tip; rows = the_row ∷ [] })
+    ≡ (0x42 ∷ replicate 32 0x22) ++ (0x43 ∷ replicate 32 0x11) ++ 0x00 ∷ 0x04 ∷ 0x03 ∷ 0x32 ∷ 0x07 ∷ 0x51 ∷ []
+unfolding batch_text marker_text row_text head_text value_text covered_from key_text coin_text compact varint marked amount_code code_of tens left script_form short_form between
+the_batch = refl
+
+pub the_length : length (batch_text no_mask (record { marker = At the_tip; rows = the_row ∷ [] })) ≡ 72
+unfolding batch_text marker_text row_text head_text value_text covered_from key_text coin_text compact varint marked amount_code code_of tens left script_form short_form between
+the_length = refl
+
+pub the_covered_row : row_text (1 ∷ 2 ∷ 3 ∷ 4 ∷ 5 ∷ 6 ∷ 7 ∷ 8 ∷ []) the_row ≡ (0x43 ∷ replicate 32 0x11) ++ 0x00 ∷ 0x04 ∷ 0x02 ∷ 0x30 ∷ 0x04 ∷ 0x55 ∷ []
+unfolding row_text head_text value_text covered_from key_text coin_text compact varint marked amount_code code_of tens left script_form short_form between
+the_covered_row = refl

@@ -1,0 +1,166 @@
+-- The coins at the places of batches are those after the batches.
+use Rattle.std.specs.Prelude.{◌≡◌, ℕ, ◌+◌, Bool, true, false, List, [], ◌∷◌, ◌++◌, length, take, drop, is_some, Option, Some, None, refl}
+use Rattle.std.specs.FinMap.{get, empty, get-empty, same_map}
+use Rattle.std.specs.Int.{to_le_bytes, w32}
+use Rattle.std.specs.List.{AllByRecursion}
+use Rattle.std.specs.Ordering.{eq_by_cmp}
+use Rattle.std.proofs.Common.{cond, eqb, ltb, sym, ap, ◌∙◌, append_assoc, arith, inl, inr}
+use Rattle.std.proofs.lemmas.Bool.{cases_Bool, eqb-true, le-ltb}
+use Rattle.std.proofs.lemmas.List.{length-append, take_at, drop_at}
+use Rattle.disk_model.specs.Disk.{Image}
+use Rattle.base_types.specs.Coins.{Coins}
+use Rattle.base_types.specs.Keys.{outpoint_cmp, outpoint_cmp_total, outpoint_cmp-IsAntisymmetric}
+use Rattle.base_types.specs.declared.coin.Coin.{Coin}
+use Rattle.base_types.specs.declared.hash.OutPoint.{OutPoint}
+use Rattle.batch_log.specs.Records.{body, records, EndsClosed}
+use Rattle.coin_store.specs.declared.places.CoinPlace.{CoinPlace}
+use Rattle.coin_store.specs.declared.store.CoinStore.{CoinStore}
+use Rattle.coin_store.specs.Batches.{Row, Batch, covered, value_text, head_text, row_text, rows_text, marker_text, batch_text, RowFits, ValueFits, BatchFits}
+use Rattle.coin_store.specs.Places.{CoinPlaces, put, place_of, coins_after_rows, coins_after, rows_after, places_after_rows, places_after_batch, places_after, live, bytes_there, coin_there, coins_at_places}
+use Rattle.coin_store.specs.Reading.{◌>>=◌, value_of}
+use Rattle.coin_store.specs.RowLaws.{value_again, length-covered, covered_twice}
+use Rattle.coin_store.specs.Seen.{get-put, seen, no_bytes}
+use Rattle.coin_store.specs.Store.{Knows, Holds, texts}
+use Rattle.coin_store.specs.Viewing.{coins_seen}
+
+-- each outpoint's place means its coin
+abbrev Mean : List ℕ → Image → CoinPlaces → Coins → Type 0
+Mean mask image places coins = (q : OutPoint) → (get places q >>= coin_there mask image) ≡ get coins q
+
+either_means : {A B : Type 0} (b : Bool) (x y : Option A) (f : A → Option B) → (cond b x y >>= f) ≡ cond b (x >>= f) (y >>= f)
+either_means true x y f = refl
+either_means false x y f = refl
+
+put_means : (mask : List ℕ) (image : Image) (places : CoinPlaces) (coins : Coins) (key : OutPoint) (place : Option CoinPlace) (coin : Option Coin) → (place >>= coin_there mask image) ≡ coin → Mean mask image places coins
+    → Mean mask image (put places key place) (put coins key coin)
+put_means mask image places coins key place coin here all q =
+    ap (λ (p : Option CoinPlace). p >>= coin_there mask image) (get-put places key place q)
+    ∙ either_means (eq_by_cmp outpoint_cmp q key) place (get places q) (coin_there mask image)
+    ∙ ap (λ (c : Option Coin). cond (eq_by_cmp outpoint_cmp q key) c (get places q >>= coin_there mask image)) here
+    ∙ ap (λ (c : Option Coin). cond (eq_by_cmp outpoint_cmp q key) coin c) (all q)
+    ∙ sym (get-put coins key coin q)
+
+-- the bytes of a file from an offset on
+record Stand (bytes : List ℕ) (at : ℕ) (text rest : List ℕ) : Type 0 where
+  front : List ℕ
+  is : bytes ≡ front ++ (text ++ rest)
+  reach : at ≡ length front
+
+stand_there : (bytes : List ℕ) (at : ℕ) (text rest : List ℕ) → Stand bytes at text rest → take (length text) (drop at bytes) ≡ text
+stand_there bytes at text rest s = ap (λ (b : List ℕ). take (length text) (drop at b)) s.is ∙ ap (λ (n : ℕ). take (length text) (drop n (s.front ++ (text ++ rest)))) s.reach
+    ∙ ap (λ (b : List ℕ). take (length text) b) (drop_at s.front (text ++ rest) (length s.front) refl) ∙ take_at text rest (length text) refl
+
+-- behind the first of two texts
+stand_behind : (bytes : List ℕ) (at next : ℕ) (first second rest : List ℕ) → next ≡ at + length first → Stand bytes at (first ++ second) rest → Stand bytes next second rest
+stand_behind bytes at next first second rest is s = record {
+  front = s.front ++ first;
+  is = s.is ∙ ap (λ (b : List ℕ). s.front ++ b) (append_assoc first second rest) ∙ sym (append_assoc s.front first (second ++ rest));
+  reach = omega (arith, is, s.reach, length-append s.front first);
+}
+
+stand_before : (bytes : List ℕ) (at : ℕ) (first second rest : List ℕ) → Stand bytes at (first ++ second) rest → Stand bytes at first (second ++ rest)
+stand_before bytes at first second rest s = record { front = s.front; is = s.is ∙ ap (λ (b : List ℕ). s.front ++ b) (append_assoc first second rest); reach = s.reach }
+
+module _ (file : ℕ) (mask : List ℕ) (image : Image) where
+  value_there : (place : CoinPlace) (coin : Coin) (rest : List ℕ) → ValueFits (Some coin) → place.file ≡ file → place.len ≡ length (value_text (Some coin)) → Stand (image file) place.at (covered mask (value_text (Some coin))) rest
+      → coin_there mask image place ≡ Some coin
+  value_there place coin rest fits named size s =
+      let text = value_text (Some coin) in
+      let long : place.len ≡ length (covered mask text) = size ∙ sym (length-covered 0 mask text) in
+      let is : bytes_there image place ≡ covered mask text =
+      ap (λ (f : ℕ). take place.len (drop place.at (image f))) named ∙ ap (λ (n : ℕ). take n (drop place.at (image file))) long ∙ stand_there (image file) place.at (covered mask text) rest s in
+      let enough : ltb (length (bytes_there image place)) place.len ≡ false = le-ltb _ _ (omega (arith, ap length is, long)) in
+      let value : value_of (covered mask (bytes_there image place)) ≡ Some (Some coin) = ap (λ (b : List ℕ). value_of (covered mask b)) is ∙ ap value_of (covered_twice 0 mask text) ∙ value_again (Some coin) fits in
+      rw (enough, value) refl
+
+  row_means : (gate offset : ℕ) (key : OutPoint) (coin : Option Coin) (rest : List ℕ) → ValueFits coin → Stand (image file) (gate + (5 + offset)) (row_text mask (record { key = key; coin = coin })) rest
+      → (place_of file gate offset (record { key = key; coin = coin }) >>= coin_there mask image) ≡ coin
+  unfolding row_text
+  row_means gate offset key None rest fits s = refl
+  row_means gate offset key (Some coin) rest fits s =
+      let text = value_text (Some coin) in
+      let head = head_text key (length text) in
+      let place : CoinPlace = record { file = file; gate = gate; at = gate + 5 + offset + length head; len = length text } in
+      value_there place coin rest fits refl refl (stand_behind (image file) (gate + (5 + offset)) (gate + 5 + offset + length head) head (covered mask text) rest (omega arith) s)
+
+  rows_mean : (gate offset : ℕ) (rows : List Row) (rest : List ℕ) (places : CoinPlaces) (coins : Coins) → AllByRecursion RowFits rows → Stand (image file) (gate + (5 + offset)) (rows_text mask rows) rest → Mean mask image places coins
+      → Mean mask image (places_after_rows file mask gate offset places rows) (coins_after_rows coins rows)
+  rows_mean gate offset [] rest places coins fits s all = all
+  rows_mean gate offset (row ∷ rows) rest places coins fits s all =
+      let first = stand_before (image file) (gate + (5 + offset)) (row_text mask row) (rows_text mask rows) rest s in
+      let further = stand_behind (image file) (gate + (5 + offset)) (gate + (5 + (offset + length (row_text mask row)))) (row_text mask row) (rows_text mask rows) rest (omega arith) s in
+      rows_mean gate (offset + length (row_text mask row)) rows rest (put places row.key (place_of file gate offset row)) (put coins row.key row.coin) fits.1 further
+      (put_means mask image places coins row.key (place_of file gate offset row) row.coin (row_means gate offset row.key row.coin (rows_text mask rows ++ rest) fits.0.value first) all)
+
+  batches_mean : (gate : ℕ) (batches : List Batch) (rest : List ℕ) (places : CoinPlaces) (coins : Coins) → AllByRecursion BatchFits batches → Stand (image file) gate (records (texts mask batches)) rest → Mean mask image places coins
+      → Mean mask image (places_after file mask gate places batches) (coins_after coins batches)
+  unfolding batch_text
+  batches_mean gate [] rest places coins fits s all = all
+  batches_mean gate (batch ∷ batches) rest places coins fits s all =
+      let payload = batch_text mask batch in
+      let whole = 1 ∷ body payload in
+      let later = records (texts mask batches) in
+      let first = stand_before (image file) gate whole later rest s in
+      let further = stand_behind (image file) gate (gate + (5 + length payload)) whole later rest (omega arith) s in
+      let inside = stand_behind (image file) gate (gate + 5) (1 ∷ to_le_bytes w32 (length payload)) payload (later ++ rest) (omega arith) first in
+      let rows = stand_behind (image file) (gate + 5) (gate + (5 + length (marker_text batch.marker))) (marker_text batch.marker) (rows_text mask batch.rows) (later ++ rest) (omega arith) inside in
+      batches_mean (gate + (5 + length payload)) batches rest (places_after_batch file mask gate places batch) (coins_after_rows coins batch.rows) fits.1 further
+      (rows_mean gate (length (marker_text batch.marker)) batch.rows (later ++ rest) places coins fits.0.rows rows all)
+
+live_means : (mask : List ℕ) (image : Image) (place : Option CoinPlace) → (place >>= coin_there mask image) ≡ (live place >>= coin_there mask image)
+live_means mask image None = refl
+live_means mask image (Some place) = elim (cases_Bool (eqb place.len 0)) [
+  | inl t ↦ rw t (no_bytes mask image place (eqb-true place.len 0 t))
+  | inr f ↦ rw f refl
+]
+
+-- what the places of a store mean in bytes that end at its batches
+pub coins_in : (store : CoinStore) (batches : List Batch) → Knows store batches → (image : Image) → EndsClosed (texts store.mask batches) (image store.log.file) → coins_at_places store.mask image store.index ≡ rows_after batches
+coins_in store batches k image closed =
+    let file = store.log.file in
+    let begun : Stand (image file) 0 (records (texts store.mask batches)) (closed.gate ∷ closed.rest) = record { front = []; is = closed.is; reach = refl } in
+    let none : Mean store.mask image empty empty = λ q. ap (λ (p : Option CoinPlace). p >>= coin_there store.mask image) (get-empty outpoint_cmp q) ∙ sym (get-empty outpoint_cmp q) in
+    same_map outpoint_cmp_total outpoint_cmp-IsAntisymmetric (coins_at_places store.mask image store.index) (rows_after batches) (λ q.
+    seen store.mask image store.index q
+    ∙ live_means store.mask image (get store.index q)
+    ∙ ap (λ (p : Option CoinPlace). p >>= coin_there store.mask image) (k.places q)
+    ∙ batches_mean file store.mask image 0 batches (closed.gate ∷ closed.rest) empty empty k.fits begun none q)
+
+-- the coins of a store, as the disk reads
+pub held_coins : (contents : Option Image) (left : Image → Type 0) (store : CoinStore) (batches : List Batch) → Holds contents left store batches → coins_seen store contents ≡ Some (rows_after batches)
+held_coins contents left store batches h =
+    ap (λ (o : Option Image). coins_seen store o) h.stands.holds.told ∙ ap (λ (c : Coins). Some c) (coins_in store batches h.knows h.stands.holds.image h.stands.holds.reads)
+
+-- ---- which outpoints have coins
+
+-- those that have places
+abbrev Match : CoinPlaces → Coins → Type 0
+Match places coins = (q : OutPoint) → is_some (get places q) ≡ is_some (get coins q)
+
+either_some : {A B : Type 0} (b : Bool) (x y : Option A) (u v : Option B) → is_some x ≡ is_some u → is_some y ≡ is_some v → is_some (cond b x y) ≡ is_some (cond b u v)
+either_some true x y u v p q = p
+either_some false x y u v p q = q
+
+place_some : (file gate offset : ℕ) (key : OutPoint) (coin : Option Coin) → is_some (place_of file gate offset (record { key = key; coin = coin })) ≡ is_some coin
+place_some file gate offset key None = refl
+place_some file gate offset key (Some coin) = refl
+
+put_match : (places : CoinPlaces) (coins : Coins) (key : OutPoint) (place : Option CoinPlace) (coin : Option Coin) → is_some place ≡ is_some coin → Match places coins → Match (put places key place) (put coins key coin)
+put_match places coins key place coin here all q =
+    ap is_some (get-put places key place q) ∙ either_some (eq_by_cmp outpoint_cmp q key) place (get places q) coin (get coins q) here (all q) ∙ ap is_some (sym (get-put coins key coin q))
+
+rows_match : (file : ℕ) (mask : List ℕ) (gate offset : ℕ) (rows : List Row) (places : CoinPlaces) (coins : Coins) → Match places coins → Match (places_after_rows file mask gate offset places rows) (coins_after_rows coins rows)
+rows_match file mask gate offset [] places coins all = all
+rows_match file mask gate offset (row ∷ rows) places coins all =
+    rows_match file mask gate (offset + length (row_text mask row)) rows (put places row.key (place_of file gate offset row)) (put coins row.key row.coin)
+    (put_match places coins row.key (place_of file gate offset row) row.coin (place_some file gate offset row.key row.coin) all)
+
+batches_match : (file : ℕ) (mask : List ℕ) (gate : ℕ) (batches : List Batch) (places : CoinPlaces) (coins : Coins) → Match places coins → Match (places_after file mask gate places batches) (coins_after coins batches)
+batches_match file mask gate [] places coins all = all
+batches_match file mask gate (batch ∷ batches) places coins all =
+    batches_match file mask (gate + (5 + length (batch_text mask batch))) batches (places_after_batch file mask gate places batch) (coins_after_rows coins batch.rows)
+    (rows_match file mask gate (length (marker_text batch.marker)) batch.rows places coins all)
+
+pub coins_known : (store : CoinStore) (batches : List Batch) → Knows store batches → (q : OutPoint) → is_some (live (get store.index q)) ≡ is_some (get (rows_after batches) q)
+coins_known store batches k q =
+    ap is_some (k.places q) ∙ batches_match store.log.file store.mask 0 batches empty empty (λ o. ap is_some (get-empty outpoint_cmp o) ∙ ap is_some (sym (get-empty outpoint_cmp o))) q

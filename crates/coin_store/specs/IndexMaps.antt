@@ -1,0 +1,31 @@
+-- The index as a finite map.
+use Rattle.std.specs.Prelude.{ℕ, List, map, refl}
+use Rattle.std.specs.Coded.{Coded, code_by, coded_ℕ, coded_list, coded×}
+use Rattle.std.specs.FinMap.{from_entries, code}
+use Rattle.std.specs.HashMap.{HashMap}
+use Rattle.base_types.specs.declared.hash.OutPoint.{OutPoint}
+use Rattle.coin_store.specs.declared.index.IndexKey.{IndexKey}
+use Rattle.coin_store.specs.declared.index.Salted.{Salted}
+use Rattle.coin_store.specs.declared.places.CoinPlace.{CoinPlace}
+use Rattle.coin_store.specs.Places.{CoinPlaces}
+
+abbrev pub pairs : List (IndexKey × CoinPlace) → List (OutPoint × CoinPlace)
+pairs entries = map (λ entry. (entry.0.outpoint, entry.1)) entries
+
+abbrev pub map_of : HashMap IndexKey CoinPlace Salted → CoinPlaces
+map_of places = from_entries (pairs places.entries)
+
+-- ---- codes, by which proofs tell values apart
+
+outpoint_code : Coded OutPoint
+outpoint_code = code_by (List ℕ × ℕ) (coded× (coded_list coded_ℕ) coded_ℕ) (λ o. (o.txid.bytes, o.index)) (λ p. record { txid = record { bytes = p.0 }; index = p.1 }) (λ _. refl)
+
+abbrev Numbers : Type 0
+Numbers = ℕ × ℕ
+
+place_code : Coded CoinPlace
+place_code = code_by (Numbers × Numbers) (coded× (coded× coded_ℕ coded_ℕ) (coded× coded_ℕ coded_ℕ)) (λ p. ((p.gate, p.at), (p.len, p.file)))
+    (λ n. record { gate = n.0.0; at = n.0.1; len = n.1.0; file = n.1.1 }) (λ _. refl)
+
+pub places_code : Coded CoinPlaces
+places_code = code outpoint_code place_code

@@ -1,0 +1,17 @@
+pub mod BatchLaws
+pub mod BatchReads
+pub mod Batches
+pub mod Examples
+pub mod HeldCoins
+pub mod IndexKeys
+pub mod IndexMaps
+pub mod Kept
+pub mod KeyOrder
+pub mod Opening
+pub mod Places
+pub mod Reading
+pub mod RowLaws
+pub mod Rows
+pub mod Seen
+pub mod Store
+pub mod Viewing

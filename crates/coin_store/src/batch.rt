@@ -1,0 +1,110 @@
+//! Reading whole batches.
+
+ghost use Rattle.std.specs.Prelude.{◌≡◌, ℕ, ◌+◌, ◌^◌, ◌<◌, ◌≤◌, List, length, Option, Some, None, IfOk, IfErr, OnOk};
+ghost use Rattle.base_types.specs.declared.coin.Coin.{Coin};
+ghost use Rattle.coin_store.specs.BatchReads.{IsHash, IsMarker, HasBatch, NotesRow};
+ghost use Rattle.coin_store.specs.Reading.{batch_of};
+ghost use Rattle.coin_store.specs.Rows.{IsBrokenBy};
+
+use crate::cover::Mask;
+use crate::index::Index;
+use crate::marker::Marker;
+use crate::places::CoinPlace;
+use crate::row::{RowFault, RowHead, read_row};
+use base_types::{Cursor, Hash32};
+use std::alloc::{AllocError, Global};
+
+/// The letters before the tips of a marker (`DB_BEST_BLOCK` and `DB_HEAD_BLOCKS` in Bitcoin Core's `txdb.cpp`).
+const AT: u8 = b'B';
+
+const BETWEEN: u8 = b'H';
+
+/// The gate of a payload's record: its file, and its offset.
+#[derive(Clone, Copy, Debug)]
+pub struct Gate {
+    pub file: u32,
+    pub at: u64,
+}
+
+fn take_hash(cursor: &mut Cursor<'_>) -> Option<Hash32>
+    ensures hash { IsHash cursor.old.rest cursor.new.rest result }
+    ensures end { cursor.new.end ≡ cursor.old.end }
+{
+    let Ok(taken) = cursor.take(32) else {
+        return None;
+    };
+    let mut bytes = [0; 32];
+    bytes.copy_from_slice(taken);
+    Some(Hash32 { bytes })
+}
+
+#[tactic(auto, unfolding(crate::specs::Reading::marker_of))]
+fn marker_of(cursor: &mut Cursor<'_>) -> Option<Marker>
+    ensures marker { IsMarker cursor.old.rest cursor.new.rest result }
+    ensures end { cursor.new.end ≡ cursor.old.end }
+{
+    let Ok(letter) = cursor.u8() else {
+        return None;
+    };
+    match letter {
+        AT => Some(Marker::At {
+            tip: take_hash(cursor)?,
+        }),
+        BETWEEN => Some(Marker::Between {
+            new_tip: take_hash(cursor)?,
+            old_tip: take_hash(cursor)?,
+        }),
+        _ => None,
+    }
+}
+
+// Keeps the place of a row's coin. The row stands at that offset of the payload.
+fn note(index: &mut Index, gate: Gate, offset: usize, row: &RowHead) -> Result<(), AllocError>
+    requires fits { gate.at + (5 + (offset + (row.now.from + row.now.len))) < 2 ^ 64 }
+    requires len { row.now.len < 2 ^ 32 }
+    ensures { OnOk result (NotesRow gate.file gate.at offset row.now index.old index.new) }
+{
+    if row.len == 0 {
+        index.remove(&row.key);
+        return Ok(());
+    }
+    let place = CoinPlace {
+        file: gate.file,
+        gate: gate.at,
+        at: gate.at + 5 + offset as u64 + row.from as u64,
+        len: row.len as u32,
+    };
+    index.set(&row.key, place)
+}
+
+/// Reads a payload and keeps the places of its coins, which it uncovers where they stand. After an error the places may
+/// be those after the rows that were read.
+pub fn read_batch(
+    alloc: Global,
+    payload: &mut [u8],
+    gate: Gate,
+    mask: &Mask,
+    index: &mut Index,
+) -> Result<Marker, RowFault>
+    requires fits { gate.at + (5 + length payload.old) < 2 ^ 64 }
+    requires len { length payload.old < 2 ^ 32 }
+    ensures ok { IfOk result (HasBatch gate.file gate.at mask.now payload.old index.old index.new) }
+    ensures broken { IfErr result (IsBrokenBy (batch_of mask.now payload.old ≡ None)) }
+{
+    let mut cursor = Cursor::new(payload);
+    let Some(marker) = marker_of(&mut cursor) else {
+        return Err(RowFault::Broken);
+    };
+    let mut at = cursor.place();
+    while at < payload.len() {
+        let row = match read_row(alloc, &mut payload[at..], mask) {
+            Ok(row) => row,
+            Err(fault) => return Err(fault),
+        };
+        let Ok(()) = note(index, gate, at, &row) else {
+            return Err(RowFault::NoMemory);
+        };
+        at += row.from + row.len;
+    }
+    Ok(marker)
+}

@@ -1,0 +1,23 @@
+//! The coins of a chainstate as rows in a log: each payload is a marker, which names the block that the coins are those
+//! of, and rows, each an outpoint with its coin or with none. A later row overrules an earlier one. In memory are the
+//! places of the coins alone; a view reads a coin from its place.
+#![tactic(auto)]
+
+mod batch;
+mod cover;
+mod index;
+mod key_order;
+mod marker;
+mod opening;
+mod places;
+mod row;
+mod store;
+mod view;
+
+pub use marker::Marker;
+pub use places::CoinPlace;
+pub use store::CoinStore;
+pub use view::StoreView;
+
+#[cfg(test)]
+mod tests;

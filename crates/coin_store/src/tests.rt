@@ -1,0 +1,253 @@
+use crate::{CoinStore, Marker};
+use base_types::{Coin, Hash32, Limits, OutPoint, Salt, Script, StoreFault, View};
+use disk_model::{Disk, Image, MemDisk};
+use std::alloc::Global;
+use std::test::Fail;
+
+const LIMITS: Limits = Limits {
+    file_bytes: 4096,
+    headers: 1,
+};
+
+const SALT: Salt = Salt { a: 1, b: 2 };
+
+const START: Hash32 = Hash32 { bytes: [0; 32] };
+
+const TIP: Hash32 = Hash32 { bytes: [0x22; 32] };
+
+const FIRST: OutPoint = OutPoint {
+    txid: Hash32 { bytes: [0x11; 32] },
+    index: 0,
+};
+
+const NO_KEY: [u8; 8] = [0; 8];
+
+/// The payloads as the log of file 3.
+fn image_of(alloc: Global, payloads: &[&[u8]]) -> Result<Image, Fail> {
+    let mut bytes = Vec::new(alloc);
+    for payload in payloads {
+        let payload: &[u8] = *payload;
+        bytes.push(1)?;
+        bytes.extend_from_slice(&(payload.len().min(1 << 16) as u32).to_le_bytes())?;
+        bytes.extend_from_slice(payload)?;
+    }
+    bytes.push(0)?;
+    let mut image = Image::new(alloc);
+    image.put(3, &bytes)?;
+    Ok(image)
+}
+
+/// A marker at the tip, and a row of the first outpoint with these bytes.
+fn one_row(alloc: Global, value: &[u8]) -> Result<Vec<u8>, Fail> {
+    let mut payload = Vec::new(alloc);
+    payload.push(0x42)?;
+    payload.extend_from_slice(&[0x22; 32])?;
+    payload.push(0x43)?;
+    payload.extend_from_slice(&[0x11; 32])?;
+    payload.push(0)?;
+    payload.push(value.len().min(252) as u8)?;
+    payload.extend_from_slice(value)?;
+    Ok(payload)
+}
+
+fn open<D: Disk>(alloc: Global, disk: &mut D, key: [u8; 8]) -> Result<CoinStore, StoreFault> {
+    CoinStore::open(alloc, disk, 3, None, &START, &LIMITS, &SALT, key)
+}
+
+/// The value of the first outpoint's coin, in satoshis.
+fn value<D: Disk>(store: &CoinStore, disk: &mut D) -> Result<Option<u64>, StoreFault> {
+    let mut view = store.view(disk);
+    match view.get(&FIRST)? {
+        Some(coin) => Ok(Some(coin.value)),
+        None => Ok(None),
+    }
+}
+
+#[test]
+fn a_later_row_overrules(rt: HostRuntime) -> Result<(), Fail> {
+    let first = one_row(rt.alloc(), &[0x03, 0x32, 0x07, 0x51])?;
+    let second = one_row(rt.alloc(), &[0x03, 0x31, 0x07, 0x51])?;
+    let away = one_row(rt.alloc(), &[])?;
+    let rows: [(&[&[u8]], Option<u64>, u64); 4] = [
+        (&[], None, 0),
+        (&[&first], Some(5_000_000_000), 1),
+        (&[&first, &second], Some(500_000_000), 2),
+        (&[&first, &second, &away], None, 3),
+    ];
+    for (payloads, want, count) in rows {
+        let image = image_of(rt.alloc(), payloads)?;
+        let mut disk = MemDisk::from_image(rt.alloc(), &image)?;
+        let store = open(rt.alloc(), &mut disk, NO_KEY)?;
+        assert_eq!(rt; value(&store, &mut disk), Ok(want));
+        let tip = if count == 0 { START } else { TIP };
+        assert_eq!(rt; store.marker(), Marker::At { tip });
+        assert!(rt; store.marker_at(count).is_none());
+        if count > 0 {
+            assert_eq!(rt; store.marker_at(0), Some((Marker::At { tip: TIP }, 0)));
+        }
+        if count > 1 {
+            assert_eq!(rt; store.marker_at(1), Some((Marker::At { tip: TIP }, 77)));
+        }
+    }
+    Ok(())
+}
+
+#[test]
+fn a_covered_coin_is_read_with_its_key(rt: HostRuntime) -> Result<(), Fail> {
+    let payload = one_row(rt.alloc(), &[0x02, 0x30, 0x04, 0x55])?;
+    let image = image_of(rt.alloc(), &[&payload])?;
+    let mut disk = MemDisk::from_image(rt.alloc(), &image)?;
+    let store = open(rt.alloc(), &mut disk, [1, 2, 3, 4, 5, 6, 7, 8])?;
+    let mut view = store.view(&mut disk);
+    let coin = view.get(&FIRST)?;
+    let want = Coin {
+        value: 5_000_000_000,
+        script: Script::from_slice(rt.alloc(), &[0x51])?,
+        height: 1,
+        coinbase: true,
+    };
+    assert!(rt; coin == Some(want));
+    assert!(rt; view.get(&OutPoint { index: 1, ..FIRST })?.is_none());
+    Ok(())
+}
+
+/// A file with one byte of its bytes changed.
+fn changed(alloc: Global, bytes: &[u8], at: usize, byte: u8) -> Result<Vec<u8>, Fail> {
+    let mut changed = Vec::from_slice(alloc, bytes)?;
+    if at < changed.len() {
+        changed[at] = byte;
+    }
+    Ok(changed)
+}
+
+#[test]
+fn a_broken_form_is_damage_at_its_gate(rt: HostRuntime) -> Result<(), Fail> {
+    let first = one_row(rt.alloc(), &[0x03, 0x32, 0x07, 0x51])?;
+    // The raw form of a script that pays to a key's hash, which has a short form.
+    let mut raw = Vec::from_slice(rt.alloc(), &[0x03, 0x32, 0x1f, 0x76, 0xa9, 0x14])?;
+    raw.extend_from_slice(&[0x33; 20])?;
+    raw.extend_from_slice(&[0x88, 0xac])?;
+    let second_spelling = one_row(rt.alloc(), &raw)?;
+    let image = image_of(rt.alloc(), &[&first, &first])?;
+    let bytes = image.get(3).unwrap_or(&[]);
+    let whole = bytes.len();
+    let damaged = |at| Err(StoreFault::Damaged { file: 3, at });
+    // Byte 5 is the first payload's marker, 38 its row's letter, 72 the coin's length, 73 its first byte; the second
+    // payload's gate is at 77.
+    let rows: [(usize, u8, Result<Option<u64>, StoreFault>); 9] = [
+        (whole, 0, Ok(Some(5_000_000_000))),
+        (0, 0, Ok(None)),
+        (77, 0, Ok(Some(5_000_000_000))),
+        (5, 0x43, damaged(0)),
+        (82, 0x43, damaged(77)),
+        (38, 0x42, damaged(0)),
+        (72, 3, damaged(0)),
+        (72, 5, damaged(0)),
+        (149, 3, damaged(77)),
+    ];
+    for (at, byte, want) in rows {
+        let mut image = Image::new(rt.alloc());
+        image.put(3, &changed(rt.alloc(), bytes, at, byte)?)?;
+        let mut disk = MemDisk::from_image(rt.alloc(), &image)?;
+        let found = match open(rt.alloc(), &mut disk, NO_KEY) {
+            Ok(store) => value(&store, &mut disk),
+            Err(fault) => Err(fault),
+        };
+        assert_eq!(rt; found, want);
+    }
+    let mut cut = Image::new(rt.alloc());
+    cut.put(3, &bytes[..whole - 1])?;
+    let mut disk = MemDisk::from_image(rt.alloc(), &cut)?;
+    assert!(rt;
+        open(rt.alloc(), &mut disk, NO_KEY).err() == Some(StoreFault::Damaged { file: 3, at: 77 })
+    );
+    let short = image_of(rt.alloc(), &[&second_spelling])?;
+    let mut disk = MemDisk::from_image(rt.alloc(), &short)?;
+    assert!(rt;
+        open(rt.alloc(), &mut disk, NO_KEY).err() == Some(StoreFault::Damaged { file: 3, at: 0 })
+    );
+    Ok(())
+}
+
+#[test]
+fn a_view_reads_the_disk_that_it_is_given(rt: HostRuntime) -> Result<(), Fail> {
+    let payload = one_row(rt.alloc(), &[0x03, 0x32, 0x07, 0x51])?;
+    let image = image_of(rt.alloc(), &[&payload])?;
+    let mut disk = MemDisk::from_image(rt.alloc(), &image)?;
+    let store = open(rt.alloc(), &mut disk, NO_KEY)?;
+    let bytes = image.get(3).unwrap_or(&[]);
+    let rows: [(usize, u8, Result<Option<u64>, StoreFault>); 3] = [
+        (74, 0x31, Ok(Some(500_000_000))),
+        (74, 0x80, Err(StoreFault::Damaged { file: 3, at: 0 })),
+        (5, 0x43, Ok(Some(5_000_000_000))),
+    ];
+    for (at, byte, want) in rows {
+        let mut copy = Image::new(rt.alloc());
+        copy.put(3, &changed(rt.alloc(), bytes, at, byte)?)?;
+        let mut other = MemDisk::from_image(rt.alloc(), &copy)?;
+        assert_eq!(rt; value(&store, &mut other), want);
+    }
+    let mut short = Image::new(rt.alloc());
+    short.put(3, &bytes[..76])?;
+    let mut other = MemDisk::from_image(rt.alloc(), &short)?;
+    assert_eq!(rt;
+        value(&store, &mut other),
+        Err(StoreFault::Damaged { file: 3, at: 0 })
+    );
+    Ok(())
+}
+
+#[test]
+fn a_failed_read_ends_the_opening(rt: HostRuntime) -> Result<(), Fail> {
+    let payload = one_row(rt.alloc(), &[0x03, 0x32, 0x07, 0x51])?;
+    let image = image_of(rt.alloc(), &[&payload, &payload])?;
+    for call in 1..=7 {
+        let mut disk = MemDisk::from_image(rt.alloc(), &image)?;
+        disk.fail_at(&[call])?;
+        let found = open(rt.alloc(), &mut disk, NO_KEY);
+        assert!(rt; found.err() == Some(StoreFault::DiskFailed));
+    }
+    let mut disk = MemDisk::from_image(rt.alloc(), &image)?;
+    disk.fail_at(&[8])?;
+    let store = open(rt.alloc(), &mut disk, NO_KEY)?;
+    assert_eq!(rt; value(&store, &mut disk), Err(StoreFault::DiskFailed));
+    assert_eq!(rt; value(&store, &mut disk), Ok(Some(5_000_000_000)));
+    Ok(())
+}
+
+#[test]
+fn keys_go_by_their_texts(rt: HostRuntime) -> Result<(), Fail> {
+    // Rows at the numbers 256, 16512 and 255 of one transaction, and one that takes the number 0 away.
+    let mut payload = Vec::from_slice(rt.alloc(), &[0x42])?;
+    payload.extend_from_slice(&[0x22; 32])?;
+    let numbers: [&[u8]; 3] = [&[0x81, 0x00], &[0x80, 0x80, 0x00], &[0x80, 0x7f]];
+    for number in numbers {
+        payload.push(0x43)?;
+        payload.extend_from_slice(&[0x11; 32])?;
+        payload.extend_from_slice(number)?;
+        payload.extend_from_slice(&[0x04, 0x03, 0x32, 0x07, 0x51])?;
+    }
+    payload.push(0x43)?;
+    payload.extend_from_slice(&[0x11; 32])?;
+    payload.extend_from_slice(&[0x00, 0x00])?;
+    let image = image_of(rt.alloc(), &[&payload])?;
+    let mut disk = MemDisk::from_image(rt.alloc(), &image)?;
+    let store = open(rt.alloc(), &mut disk, NO_KEY)?;
+    let keys = store.keys(rt.alloc())?;
+    let want = [
+        OutPoint {
+            index: 255,
+            ..FIRST
+        },
+        OutPoint {
+            index: 16_512,
+            ..FIRST
+        },
+        OutPoint {
+            index: 256,
+            ..FIRST
+        },
+    ];
+    assert!(rt; keys.as_slice() == want.as_slice());
+    Ok(())
+}

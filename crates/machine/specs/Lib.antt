@@ -1,0 +1,12 @@
+pub mod Answers
+pub mod Calls
+pub mod Clauses
+pub mod Courses
+pub mod CutRuns
+pub mod Histories
+pub mod Marks
+pub mod Moves
+pub mod Runs
+pub mod State
+pub mod Steps
+pub mod Tips

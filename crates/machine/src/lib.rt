@@ -1,0 +1,13 @@
+//! What the program does to a store, as a machine; what a run promises, as clauses over plain values; and the theorem that
+//! after any list of runs, each finished or cut by a crash, a run that opens has the coins of replaying the blocks.
+#![tactic(auto)]
+
+mod calls;
+mod example;
+mod report;
+mod theorem;
+
+pub use calls::{TwoCalls, both_calls, opening_and_call};
+pub use example::{CutRuns, cut_runs_open};
+pub use report::{Found, Opened, Report};
+pub use theorem::{History, opens_with_acknowledged_coins, stands_in_words};

@@ -3,11 +3,29 @@
 #![tactic(auto)]
 
 mod blocks;
+mod headers;
 
 use anyhow::{Result, bail};
 use std::env;
 
-const USAGE: &str = "usage: coins_bench make-blocks FILE COUNT | read-blocks FILE";
+const USAGE: &str =
+    "usage: coins_bench make-blocks FILE COUNT | read-blocks FILE | accept-headers COUNT";
+
+// The number in a word.
+fn count_of(word: Option<String>) -> Result<u32> {
+    match word {
+        Some(text) => Ok(text.as_str().parse::<u32>()?),
+        None => bail!("{USAGE}"),
+    }
+}
+
+// The word as it is.
+fn name_of(word: Option<String>) -> Result<String> {
+    match word {
+        Some(text) => Ok(text),
+        None => bail!("{USAGE}"),
+    }
+}
 
 fn main(rt: HostRuntime) -> Result<()> {
     let mut words = env::args(&rt)?.skip(1);
@@ -15,18 +33,13 @@ fn main(rt: HostRuntime) -> Result<()> {
         println!(rt; "{USAGE}")?;
         return Ok(());
     };
-    let Some(file) = words.next() else {
-        bail!("{USAGE}");
-    };
     match mode.as_str() {
         "make-blocks" => {
-            let count = match words.next() {
-                Some(text) => text.as_str().parse::<u32>()?,
-                None => bail!("{USAGE}"),
-            };
-            blocks::make(&rt, file.as_str(), count)
+            let file = name_of(words.next())?;
+            blocks::make(&rt, file.as_str(), count_of(words.next())?)
         }
-        "read-blocks" => blocks::read(&rt, file.as_str()),
+        "read-blocks" => blocks::read(&rt, name_of(words.next())?.as_str()),
+        "accept-headers" => headers::accept(&rt, count_of(words.next())?),
         _ => bail!("{USAGE}"),
     }
 }

@@ -1,6 +1,6 @@
 //! Appending numbers to bytes. Where memory runs out nothing is added.
 
-ghost use Rattle.std.specs.Prelude.{◌≡◌, ◌++◌, OnOk, OnErr};
+ghost use Rattle.std.specs.Prelude.{◌≡◌, ◌+◌, ◌≤◌, ◌++◌, length, vec_len, vec_capacity, IsOk, OnOk, OnErr};
 ghost use Rattle.std.specs.Int.{w16, w32, w64};
 ghost use Rattle.base_types.specs.Bytes.{compact, number_text, varint};
 
@@ -38,6 +38,10 @@ pub fn put_u64(out: &mut Vec<u8>, n: u64) -> Result<(), AllocError>
 pub fn put_compact_size(out: &mut Vec<u8>, n: u64) -> Result<(), AllocError>
     ensures ok { OnOk result (out.new.items ≡ out.old.items ++ compact n) }
     ensures err { OnErr result (out.new.items ≡ out.old.items) }
+
+    // Where there is room for them this takes no memory, and no room is given back.
+    ensures room { vec_len out.old + length (compact n) ≤ vec_capacity out.old → IsOk result }
+    ensures capacity { vec_capacity out.old ≤ vec_capacity out.new }
 {
     if n < 253 {
         out.push(n as u8)?;
@@ -58,6 +62,10 @@ pub fn put_compact_size(out: &mut Vec<u8>, n: u64) -> Result<(), AllocError>
 pub fn put_varint(out: &mut Vec<u8>, n: u64) -> Result<(), AllocError>
     ensures ok { OnOk result (out.new.items ≡ out.old.items ++ varint n) }
     ensures err { OnErr result (out.new.items ≡ out.old.items) }
+
+    // Where there is room for them this takes no memory, and no room is given back.
+    ensures room { vec_len out.old + length (varint n) ≤ vec_capacity out.old → IsOk result }
+    ensures capacity { vec_capacity out.old ≤ vec_capacity out.new }
 {
     // Ten groups of seven bits hold every number of 64 bits.
     let mut groups = [0; 10];

@@ -1,6 +1,6 @@
 //! Outpoints as the keys of coins.
 
-ghost use Rattle.std.specs.Prelude.{◌≡◌, ℕ, ◌++◌, length, take, List, Ok, IfOk, OnOk, OnErr};
+ghost use Rattle.std.specs.Prelude.{◌≡◌, ℕ, ◌+◌, ◌≤◌, ◌++◌, length, take, vec_len, vec_capacity, List, Ok, IsOk, IfOk, OnOk, OnErr};
 ghost use Rattle.base_types.specs.Codec.{at};
 ghost use Rattle.base_types.specs.declared.hash.OutPoint.{OutPoint};
 ghost use Rattle.coin_codec.specs.CoinLaws.{IsNumber, Taken};
@@ -18,6 +18,10 @@ const LETTER: u8 = b'C';
 fn put_key(out: &mut Vec<u8>, key: &OutPoint) -> Result<(), AllocError>
     ensures ok { OnOk result (out.new.items ≡ out.old.items ++ key_text key.now) }
     ensures err { OnErr result (take (length out.old.items) out.new.items ≡ out.old.items) }
+
+    // Where there is room for them this takes no memory, and no room is given back.
+    ensures room { vec_len out.old + length (key_text key.now) ≤ vec_capacity out.old → IsOk result }
+    ensures capacity { vec_capacity out.old ≤ vec_capacity out.new }
 {
     out.push(LETTER)?;
     out.extend_from_slice(&key.txid.bytes)?;
@@ -29,6 +33,10 @@ fn put_key(out: &mut Vec<u8>, key: &OutPoint) -> Result<(), AllocError>
 pub fn write_key(out: &mut Vec<u8>, key: &OutPoint) -> Result<(), AllocError>
     ensures ok { OnOk result (out.new.items ≡ out.old.items ++ key_text key.now) }
     ensures err { OnErr result (out.new.items ≡ out.old.items) }
+
+    // Where there is room for them this takes no memory, and no room is given back.
+    ensures room { vec_len out.old + length (key_text key.now) ≤ vec_capacity out.old → IsOk result }
+    ensures capacity { vec_capacity out.old ≤ vec_capacity out.new }
 {
     let len = out.len();
     let written = put_key(out, key);

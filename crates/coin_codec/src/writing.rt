@@ -1,6 +1,6 @@
 //! Writing coins.
 
-ghost use Rattle.std.specs.Prelude.{◌≡◌, ◌≤◌, ◌++◌, length, take, OnOk, OnErr};
+ghost use Rattle.std.specs.Prelude.{◌≡◌, ◌+◌, ◌≤◌, ◌++◌, length, take, vec_len, vec_capacity, IsOk, OnOk, OnErr};
 ghost use Rattle.coin_codec.specs.CoinText.{coin_text, CoinFits};
 ghost use Rattle.coin_codec.specs.ScriptForm.{script_form};
 
@@ -14,6 +14,10 @@ fn put_script(out: &mut Vec<u8>, script: &[u8]) -> Result<(), AllocError>
     requires { length script.now ≤ 10_000 }
     ensures ok { OnOk result (out.new.items ≡ out.old.items ++ script_form script.now) }
     ensures err { OnErr result (take (length out.old.items) out.new.items ≡ out.old.items) }
+
+    // Where there is room for them this takes no memory, and no room is given back.
+    ensures room { vec_len out.old + length (script_form script.now) ≤ vec_capacity out.old → IsOk result }
+    ensures capacity { vec_capacity out.old ≤ vec_capacity out.new }
 {
     match short_form(script) {
         Some((mark, kept)) => {
@@ -32,6 +36,10 @@ fn put_coin(out: &mut Vec<u8>, coin: &Coin) -> Result<(), AllocError>
     requires { CoinFits coin.now }
     ensures ok { OnOk result (out.new.items ≡ out.old.items ++ coin_text coin.now) }
     ensures err { OnErr result (take (length out.old.items) out.new.items ≡ out.old.items) }
+
+    // Where there is room for them this takes no memory, and no room is given back.
+    ensures room { vec_len out.old + length (coin_text coin.now) ≤ vec_capacity out.old → IsOk result }
+    ensures capacity { vec_capacity out.old ≤ vec_capacity out.new }
 {
     put_varint(out, 2 * u64::from(coin.height) + u64::from(coin.coinbase))?;
     put_varint(out, compress(coin.value))?;
@@ -44,6 +52,10 @@ pub fn write_coin(out: &mut Vec<u8>, coin: &Coin) -> Result<(), AllocError>
     requires { CoinFits coin.now }
     ensures ok { OnOk result (out.new.items ≡ out.old.items ++ coin_text coin.now) }
     ensures err { OnErr result (out.new.items ≡ out.old.items) }
+
+    // Where there is room for them this takes no memory, and no room is given back.
+    ensures room { vec_len out.old + length (coin_text coin.now) ≤ vec_capacity out.old → IsOk result }
+    ensures capacity { vec_capacity out.old ≤ vec_capacity out.new }
 {
     let len = out.len();
     let written = put_coin(out, coin);

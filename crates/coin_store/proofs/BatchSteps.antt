@@ -52,7 +52,7 @@ places_push file mask gate offset places (first ∷ rows) row =
     places_push file mask gate (offset + length (row_text mask first)) after rows row
     ∙ ap (λ (n : ℕ). put (places_after_rows file mask gate (offset + length (row_text mask first)) after rows) row.key (place_of file gate n row)) reach
 
-all_push : (rows : List Row) (row : Row) → AllByRecursion RowFits rows → RowFits row → AllByRecursion RowFits (rows ++ row ∷ [])
+pub all_push : (rows : List Row) (row : Row) → AllByRecursion RowFits rows → RowFits row → AllByRecursion RowFits (rows ++ row ∷ [])
 all_push [] row fits fit = (fit, tt)
 all_push (first ∷ rows) row fits fit = (fits.0, all_push rows row fits.1 fit)
 
@@ -60,7 +60,7 @@ append_nil : (xs : List ℕ) → xs ++ [] ≡ xs
 append_nil [] = refl
 append_nil (x ∷ xs) = ap (λ (l : List ℕ). x ∷ l) (append_nil xs)
 
-text_push : (mask : List ℕ) (rows : List Row) (row : Row) → rows_text mask (rows ++ row ∷ []) ≡ rows_text mask rows ++ row_text mask row
+pub text_push : (mask : List ℕ) (rows : List Row) (row : Row) → rows_text mask (rows ++ row ∷ []) ≡ rows_text mask rows ++ row_text mask row
 text_push mask rows row = flat_map-append (row_text mask) rows (row ∷ []) ∙ ap (λ (t : List ℕ). rows_text mask rows ++ t) (append_nil (row_text mask row))
 
 length_row : (mask : List ℕ) (row : Row) → length (row_text mask row) ≡ length (head_text row.key (length (value_text row.coin))) + length (value_text row.coin)

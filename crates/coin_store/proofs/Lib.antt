@@ -3,6 +3,10 @@ pub mod Covering
 pub mod Heads
 pub mod Indexes
 pub mod Keeping
+pub mod Noting
 pub mod Opens
 pub mod Ordering
+pub mod Payloads
 pub mod Scanning
+pub mod StagedBytes
+pub mod Vacant

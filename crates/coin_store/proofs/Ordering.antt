@@ -1,5 +1,5 @@
 -- Outpoints behind their key texts, in order.
-use Rattle.std.specs.Prelude.{◌≡◌, ℕ, ◌+◌, ◌<◌, ◌≤◌, Bool, true, false, All, IfOk, List, [], ◌∷◌, length, map, get_or, Result, Ok, Err, refl}
+use Rattle.std.specs.Prelude.{◌≡◌, ℕ, ◌+◌, ◌<◌, false, All, IfOk, List, [], ◌∷◌, length, map, get_or, Result, Ok, Err, refl}
 use Rattle.std.specs.Cmp.Lexicographic.{slice_cmp}
 use Rattle.std.specs.List.Sorted.{IsPermutation, IsSorted}
 use Rattle.std.specs.Ordering.{nat_cmp, ordering_then, is_lt}

@@ -13,5 +13,8 @@ pub mod Reading
 pub mod RowLaws
 pub mod Rows
 pub mod Seen
+pub mod Staged
+pub mod Staging
+pub mod StagingLaws
 pub mod Store
 pub mod Viewing

@@ -1,23 +1,26 @@
-//! Reading whole batches.
+//! The places of the coins of whole batches.
 
 ghost use Rattle.std.specs.Prelude.{◌≡◌, ℕ, ◌+◌, ◌^◌, ◌<◌, ◌≤◌, List, length, Option, Some, None, IfOk, IfErr, OnOk};
 ghost use Rattle.base_types.specs.declared.coin.Coin.{Coin};
+ghost use Rattle.coin_store.specs.Batches.{Row};
 ghost use Rattle.coin_store.specs.BatchReads.{IsHash, IsMarker, HasBatch, NotesRow};
+ghost use Rattle.coin_store.specs.Places.{CoinPlaces, places_after_rows};
 ghost use Rattle.coin_store.specs.Reading.{batch_of};
 ghost use Rattle.coin_store.specs.Rows.{IsBrokenBy};
+ghost use Rattle.coin_store.specs.Staged.{AreRows, Agrees, KeepsEntries};
 
 use crate::cover::Mask;
 use crate::index::Index;
 use crate::marker::Marker;
 use crate::places::CoinPlace;
-use crate::row::{RowFault, RowHead, read_row};
+use crate::row::{RowFault, RowHead, read_head, read_row};
 use base_types::{Cursor, Hash32};
 use std::alloc::{AllocError, Global};
 
 /// The letters before the tips of a marker (`DB_BEST_BLOCK` and `DB_HEAD_BLOCKS` in Bitcoin Core's `txdb.cpp`).
-const AT: u8 = b'B';
+pub const AT: u8 = b'B';
 
-const BETWEEN: u8 = b'H';
+pub const BETWEEN: u8 = b'H';
 
 /// The gate of a payload's record: its file, and its offset.
 #[derive(Clone, Copy, Debug)]
@@ -58,7 +61,21 @@ fn marker_of(cursor: &mut Cursor<'_>) -> Option<Marker>
     }
 }
 
-// Keeps the place of a row's coin. The row stands at that offset of the payload.
+// Where the coin of a row lies. The row stands at that offset of the payload.
+fn place_of(gate: Gate, offset: usize, row: &RowHead) -> CoinPlace
+    requires fits { gate.at + (5 + (offset + (row.now.from + row.now.len))) < 2 ^ 64 }
+    requires len { row.now.len < 2 ^ 32 }
+    ensures { result ≡ record { gate = gate.at; at = gate.at + 5 + offset + row.now.from; len = row.now.len; file = gate.file } }
+{
+    CoinPlace {
+        file: gate.file,
+        gate: gate.at,
+        at: gate.at + 5 + offset as u64 + row.from as u64,
+        len: row.len as u32,
+    }
+}
+
+// Keeps the place of a row's coin.
 fn note(index: &mut Index, gate: Gate, offset: usize, row: &RowHead) -> Result<(), AllocError>
     requires fits { gate.at + (5 + (offset + (row.now.from + row.now.len))) < 2 ^ 64 }
     requires len { row.now.len < 2 ^ 32 }
@@ -68,13 +85,7 @@ fn note(index: &mut Index, gate: Gate, offset: usize, row: &RowHead) -> Result<(
         index.remove(&row.key);
         return Ok(());
     }
-    let place = CoinPlace {
-        file: gate.file,
-        gate: gate.at,
-        at: gate.at + 5 + offset as u64 + row.from as u64,
-        len: row.len as u32,
-    };
-    index.set(&row.key, place)
+    index.set(&row.key, place_of(gate, offset, row))
 }
 
 /// Reads a payload and keeps the places of its coins, which it uncovers where they stand. After an error the places may
@@ -107,4 +118,23 @@ pub fn read_batch(
         at += row.from + row.len;
     }
     Ok(marker)
+}
+
+/// Keeps the places of the coins of these rows, the first of which stands at that offset of the payload. Each row's outpoint
+/// has an entry, which stays where the row takes its coin away, so that this takes no memory.
+pub fn note_rows(index: &mut Index, gate: Gate, offset: usize, rows: &[u8])
+    requires fits { gate.at + (5 + (offset + length rows.now)) < 2 ^ 64 }
+    requires len { length rows.now < 2 ^ 32 }
+    requires rows { (mask : List ℕ) × (staged : List Row) × AreRows mask index.old rows.now staged }
+    ensures places { (mask : List ℕ) (staged : List Row) (places : CoinPlaces) → AreRows mask index.old rows.now staged → Agrees index.old places
+        → Agrees index.new (places_after_rows gate.file mask gate.at offset places staged) }
+    ensures entries { KeepsEntries index.old index.new }
+{
+    let mut at = 0;
+    while at < rows.len() {
+        let row = read_head(&rows[at..]).unwrap();
+        let place = place_of(gate, offset + at, &row);
+        index.set(&row.key, place).unwrap();
+        at += row.from + row.len;
+    }
 }

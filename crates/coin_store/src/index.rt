@@ -1,6 +1,6 @@
 //! The index from outpoints to places.
 
-ghost use Rattle.std.specs.Prelude.{◌≡◌, Some, IsSome, IsOk, IfOk, OnOk, OnErr, is_some};
+ghost use Rattle.std.specs.Prelude.{◌≡◌, Some, IsSome, IsOk, IfOk, OnOk, OnErr, All, is_some};
 ghost use Rattle.std.specs.FinMap.{get, insert, remove, empty};
 ghost use Rattle.coin_store.specs.IndexKeys.{key_cmp, key_total, key_writes, same_writes};
 ghost use Rattle.std.specs.List.{list_any, IsDistinct};
@@ -8,6 +8,7 @@ ghost use Rattle.std.specs.Ordering.{eq_by_cmp};
 ghost use Rattle.base_types.specs.Keys.{outpoint_cmp};
 ghost use Rattle.base_types.specs.declared.hash.OutPoint.{OutPoint};
 ghost use Rattle.coin_store.specs.Places.{live};
+ghost use Rattle.coin_store.specs.Staged.{HasEntry, SameLive};
 ghost use Rattle.std.specs.Cmp.{eq_by_cmp_equiv, partial_equiv_from_equiv};
 
 use crate::places::CoinPlace;
@@ -48,6 +49,13 @@ impl Hash for IndexKey {
     }
 }
 
+fn is_vacant(place: Option<CoinPlace>) -> bool {
+    match place {
+        Some(place) => place.len == 0,
+        None => false,
+    }
+}
+
 /// Hashers that begin with a salt, since strangers choose the outpoints.
 #[derive(Clone, Copy)]
 pub struct Salted {
@@ -73,10 +81,20 @@ impl BuildHasher for Salted {
     }
 }
 
+/// The place of an outpoint without a coin: room in which a place can be put without taking memory.
+pub const VACANT: CoinPlace = CoinPlace {
+    gate: 0,
+    at: 0,
+    len: 0,
+    file: 0,
+};
+
 /// A map from outpoints to places. An entry takes 36 bytes for the outpoint, 24 for the place, and some 15 to be found by.
 #[derive(Drop)]
 pub struct Index {
     places: HashMap<IndexKey, CoinPlace, Salted>,
+    // How many places have no bytes.
+    vacant: usize,
 }
 
 impl Model for Index {
@@ -97,6 +115,7 @@ impl Index {
     {
         Index {
             places: HashMap::with_hasher(alloc, Salted::new(salt)),
+            vacant: 0,
         }
     }
 
@@ -113,7 +132,8 @@ impl Index {
         ensures err { OnErr result (self.new ≡ self.old) }
         ensures known { IsSome (get self.old key.now) → IsOk result }
     {
-        self.places.insert(IndexKey { outpoint: *key }, place)?;
+        let old = self.places.insert(IndexKey { outpoint: *key }, place)?;
+        self.count(old, Some(place));
         Ok(())
     }
 
@@ -121,7 +141,45 @@ impl Index {
     pub fn remove(&mut self, key: &OutPoint)
         ensures { self.new ≡ remove self.old key.now }
     {
-        self.places.remove(&IndexKey { outpoint: *key });
+        let old = self.places.remove(&IndexKey { outpoint: *key });
+        self.count(old, None);
+    }
+
+    // Counts the vacant places, where an entry has a new one.
+    fn count(&mut self, old: Option<CoinPlace>, new: Option<CoinPlace>)
+        ensures { self.new ≡ self.old }
+    {
+        if is_vacant(old) {
+            self.vacant = self.vacant.saturating_sub(1);
+        }
+        if is_vacant(new) {
+            self.vacant = self.vacant.saturating_add(1);
+        }
+    }
+
+    /// Makes room for the places of these outpoints: setting them takes no memory from then on. Where more than half of the
+    /// places are vacant these go first, so that the index grows with the coins that there are.
+    pub fn make_room(&mut self, keys: &[OutPoint]) -> Result<(), AllocError>
+        ensures ok { OnOk result (All (HasEntry self.new) keys.now) }
+        ensures same { SameLive self.old self.new }
+    {
+        if self.vacant > self.places.len() / 2 {
+            self.drop_vacant();
+        }
+        for key in keys {
+            if self.get(key).is_none() {
+                self.set(key, VACANT)?;
+            }
+        }
+        Ok(())
+    }
+
+    // Gives back the room that no coin has.
+    fn drop_vacant(&mut self)
+        ensures { SameLive self.old self.new }
+    {
+        self.places.retain(|_, place| place.len > 0);
+        self.vacant = 0;
     }
 
     /// The outpoints that have a place with bytes, each once, in no order.

@@ -11,6 +11,7 @@ mod marker;
 mod opening;
 mod places;
 mod row;
+mod staging;
 mod store;
 mod view;
 

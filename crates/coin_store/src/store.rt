@@ -1,30 +1,35 @@
 //! The store itself.
 
-ghost use Rattle.std.specs.Prelude.{◌≡◌, ℕ, ◌+◌, ◌^◌, ◌<◌, ◌≤◌, List, [], ◌∷◌, length, Option, Some, None, Ok, slice_get, option_map, is_some, IfOk, IfErr, OnOk};
-ghost use Rattle.disk_model.specs.Disk.{At, Torn, Leaves, Quiet, Only, OthersKept};
+ghost use Rattle.std.specs.Prelude.{◌≡◌, ℕ, ◌+◌, ◌-◌, ◌^◌, ◌<◌, ◌≤◌, List, [], ◌∷◌, ◌++◌, length, drop, Contains, vec_len, vec_capacity, Option, Some, None, Ok, Err, slice_get, option_map, is_some, IfOk, IfErr, OnOk, OnErr};
+ghost use Rattle.std.specs.Option.{option_copied};
+ghost use Rattle.disk_model.specs.Disk.{At, Torn, Leaves, Quiet, Only, OthersKept, Told, Rose, changed_at, written};
+ghost use Rattle.batch_log.specs.OpenLog.{IsOver, RoomCause};
+ghost use Rattle.batch_log.specs.declared.places.Place.{Place};
 ghost use Rattle.batch_log.specs.Opening.{OpenCause};
 ghost use Rattle.batch_log.specs.Reading.{ReadAtMost};
-ghost use Rattle.batch_log.specs.Records.{log as log_of, SameLog};
+ghost use Rattle.batch_log.specs.Records.{body, log as log_of, SameLog, WithOrWithout};
 ghost use Rattle.std.specs.FinMap.{get};
 ghost use Rattle.std.specs.List.{list_any, IsDistinct};
 ghost use Rattle.std.specs.List.Sorted.{IsSorted};
 ghost use Rattle.std.specs.Ordering.{eq_by_cmp};
 ghost use Rattle.base_types.specs.Keys.{outpoint_cmp};
-ghost use Rattle.base_types.specs.declared.fault.StoreFault.TheVariants.{NoMemory};
+ghost use Rattle.base_types.specs.declared.fault.StoreFault.TheVariants.{NoMemory, DiskFailed as Failed};
 ghost use Rattle.base_types.specs.declared.hash.OutPoint.{OutPoint};
 ghost use Rattle.coin_store.specs.KeyOrder.{key_order};
-ghost use Rattle.coin_store.specs.Batches.{Batch};
-ghost use Rattle.coin_store.specs.Places.{live, rows_after};
-ghost use Rattle.coin_store.specs.Viewing.{coins_seen};
+ghost use Rattle.coin_store.specs.Batches.{Batch, Row, row_text, marker_text, batch_text, ValueFits, RowFits, MarkerFits};
+ghost use Rattle.coin_store.specs.Places.{CoinPlaces, live, rows_after, places_after_rows};
+ghost use Rattle.coin_store.specs.Staged.{AreRows, Agrees, KeepsEntries};
 
+use crate::batch::{Gate, note_rows};
 use crate::cover::Mask;
 use crate::index::Index;
 use crate::key_order::in_key_order;
 use crate::marker::Marker;
 use crate::opening::read_log;
 use crate::places::CoinPlace;
+use crate::staging::{FRONT, last_gate, make_bytes, put_marker, put_row};
 use crate::view::StoreView;
-use base_types::{Hash32, Keys, Limits, OutPoint, Salt, StoreFault};
+use base_types::{Coin, Hash32, Keys, Limits, OutPoint, Salt, StoreFault};
 use batch_log::Log;
 use disk_model::Disk;
 use std::alloc::Global;
@@ -40,15 +45,22 @@ pub struct Marked {
 #[derive(Drop)]
 pub struct CoinStore {
     log: Log,
+    // The number of the log's file.
+    file: u32,
     mask: Mask,
     start: Marker,
     markers: Vec<Marked>,
     index: Index,
+    // The payload that is to come: the place of its marker, and the rows that are staged for it.
+    staged: Vec<u8>,
     alloc: Global,
+    ghost named: { file ≡ log.file },
 }
 
 impl CoinStore {
     ghost use Rattle.coin_store.specs.Store.{Knows, Holds, IsOpened, DamageIn, marks, texts, last_marker, marker_after, as_pair};
+    ghost use Rattle.coin_store.specs.Staging.{IsStaged, IsReady, SameStore, SameRows, staged_text};
+    ghost use Rattle.coin_store.specs.Viewing.{coins_seen};
 
     /// Opens the store in a file: reads its log once, and keeps the markers and the place of each coin. With no payload
     /// the marker is `At` the start. The coins of rows are covered by the key. `Damaged` names the gate where the log is
@@ -98,10 +110,12 @@ impl CoinStore {
         };
         Ok(CoinStore {
             log,
+            file: coin_file,
             mask: key,
             start: Marker::At { tip: *start },
             markers,
             index,
+            staged: Vec::new(alloc),
             alloc,
         })
     }
@@ -143,6 +157,107 @@ impl CoinStore {
             return Err(StoreFault::NoMemory);
         };
         Ok(sorted)
+    }
+
+    /// Makes room for payloads whose rows name only these outpoints: at most one more than there are outpoints, each of at
+    /// most `payload` bytes, that let the file grow by at most `total` bytes together, 5 for each and those of the payloads.
+    /// Staging and applying them takes no memory, and none is refused as too much. `Full` where the file would grow beyond
+    /// its limit. Rows that were staged before are dropped.
+    pub fn prepare(&mut self, keys: &[OutPoint], payload: u32, total: u64) -> Result<(), StoreFault>
+        ensures ok { OnOk result (IsStaged self.new keys.now payload (1 + length keys.now) total []) }
+        ensures same { SameRows self.old self.new }
+        ensures knows { (batches : List Batch) → Knows self.old batches → Knows self.new batches }
+        ensures full { IsOver self.old.log total → result ≡ Err (StoreFault.Full self.old.log.file) }
+        ensures cause { IfErr result (RoomCause self.old.log total) }
+    {
+        self.log.room(1 + keys.len() as u64, total)?;
+        self.index.make_room(keys)?;
+        self.markers.reserve(keys.len() + 1)?;
+        make_bytes(&mut self.staged, payload)?;
+        Ok(())
+    }
+
+    /// Adds a row to the payload that is to come; with no coin it takes the outpoint's coin away. This takes no memory. The
+    /// outpoint is one that was prepared, and the staged rows with this one and a marker `At` fit in the prepared bytes.
+    pub fn stage(&mut self, key: &OutPoint, coin: Option<&Coin>)
+        requires coin { ValueFits (option_copied coin) }
+        requires room { vec_len self.old.staged + length (row_text self.old.mask (record { key = key.now; coin = option_copied coin })) ≤ vec_capacity self.old.staged }
+        ensures staged { (keys : List OutPoint) (payload payloads total : ℕ) (rows : List Row) → IsStaged self.old keys payload payloads total rows → Contains keys key.now
+            → RowFits (record { key = key.now; coin = option_copied coin.entry }) → IsStaged self.new keys payload payloads total (rows ++ record { key = key.now; coin = option_copied coin.entry } ∷ []) }
+        ensures same { self.new ≡ record self.old { staged = self.new.staged } }
+        ensures text { self.new.staged.items ≡ self.old.staged.items ++ row_text self.old.mask (record { key = key.now; coin = option_copied coin.entry }) }
+        ensures capacity { vec_capacity self.old.staged ≤ vec_capacity self.new.staged }
+    {
+        put_row(&mut self.staged, key, coin, &self.mask);
+    }
+
+    /// Appends one payload of the marker and the staged rows, in their order. From Ok on rows and marker are those after it,
+    /// and no row is staged. This takes no memory: the only error is `DiskFailed`, and the rows and the marker are then as
+    /// before.
+    pub fn apply<D: Disk>(&mut self, disk: &mut D, marker: &Marker) -> Result<(), StoreFault>
+        requires ready { IsReady self.old marker.now }
+        ensures ok { (batches : List Batch) (keys : List OutPoint) (payload payloads total : ℕ) (rows : List Row)
+            → Holds (D.contents disk.old) (D.left_since disk.old (D.time disk.old)) self.old batches
+            → IsStaged self.old keys payload (1 + payloads) (5 + length (batch_text self.old.mask (record { marker = marker.now; rows = rows })) + total) rows
+            → OnOk result (Holds (D.contents disk.new) (D.left_since disk.new (D.time disk.new)) self.new (batches ++ record { marker = marker.now; rows = rows } ∷ [])
+            × IsStaged self.new keys payload payloads total []) }
+        ensures any_moment { (batches : List Batch) (keys : List OutPoint) (payload payloads total : ℕ) (rows : List Row)
+            → Holds (D.contents disk.old) (D.left_since disk.old (D.time disk.old)) self.old batches → IsStaged self.old keys payload payloads total rows
+            → Leaves D.time D.left_since (At self.old.log.file (WithOrWithout (texts self.old.mask batches) (batch_text self.old.mask (record { marker = marker.now; rows = rows })))) disk.old disk.new }
+
+        // What is written: the length, the payload and a closed gate, and then the open gate. From Ok on it is durable.
+        ensures written { OnOk result (D.contents disk.new
+            ≡ option_map (changed_at self.old.log.file (written self.old.log.end (1 ∷ [])))
+            (option_map (changed_at self.old.log.file (written (self.old.log.end + 1) (body (staged_text self.old marker.now) ++ 0 ∷ []))) (D.contents disk.old))) }
+        ensures durable { Told (D.contents disk.new) (λ m. OnOk result (Only self.old.log.file (m self.old.log.file) (D.left_since disk.new (D.time disk.new)))) }
+
+        // Whatever is known of the file, it changes only where the record and the closing gate stand, and other files stay.
+        ensures part { Leaves D.time D.left_since (At self.old.log.file (Torn self.old.log.end (6 + length (staged_text self.old marker.now)))) disk.old disk.new }
+        ensures others { OthersKept self.old.log.file (D.contents disk.old) (D.contents disk.new) }
+        ensures read { D.bytes_read disk.new ≡ D.bytes_read disk.old }
+        ensures same { SameStore self.old self.new }
+        ensures err { OnErr result (SameRows self.old self.new) }
+        ensures cause { IfErr result (λ e. (e ≡ Failed) × Rose (D.faults disk.old) (D.faults disk.new)) }
+        ensures faults { D.faults disk.old ≤ D.faults disk.new }
+    {
+        let from = put_marker(&mut self.staged, marker);
+        if let Err(fault) = self.log.append(disk, &self.staged[from..]) {
+            return Err(fault);
+        }
+        self.keep_staged(marker, FRONT - from);
+        Ok(())
+    }
+
+    // Keeps the marker of the log's last payload and the places of its rows, which are the staged ones: they stand at that
+    // offset of it.
+    fn keep_staged(&mut self, marker: &Marker, offset: usize)
+        requires listed { (places : List Place) × (place : Place) × (self.old.log.places ≡ places ++ place ∷ []) × (place.len ≡ offset + length (drop 65 self.old.staged.items)) × (place.len < 2 ^ 32) }
+        requires front { 65 ≤ length self.old.staged.items }
+        requires rows { (staged : List Row) × AreRows self.old.mask self.old.index (drop 65 self.old.staged.items) staged }
+        requires room { vec_len self.old.markers < vec_capacity self.old.markers }
+        ensures rows { (places : List Place) (place : Place) (coins : CoinPlaces) (staged : List Row) → self.old.log.places ≡ places ++ place ∷ []
+            → AreRows self.old.mask self.old.index (drop 65 self.old.staged.items) staged → Agrees self.old.index coins
+            → Agrees self.new.index (places_after_rows self.old.log.file self.old.mask place.at offset coins staged) }
+        ensures marked { (places : List Place) (place : Place) → self.old.log.places ≡ places ++ place ∷ [] → self.new.markers.items ≡ self.old.markers.items ++ record { marker = marker.now; at = place.at } ∷ [] }
+        ensures marks { vec_len self.new.markers ≡ vec_len self.old.markers + 1 }
+        ensures capacity { (vec_capacity self.old.markers ≤ vec_capacity self.new.markers) × (vec_capacity self.new.staged ≡ vec_capacity self.old.staged) }
+        ensures entries { KeepsEntries self.old.index self.new.index }
+        ensures none_left { (length self.new.staged.items ≡ 65) }
+        ensures log { self.new.log ≡ self.old.log }
+        ensures mask { self.new.mask ≡ self.old.mask }
+        ensures start { self.new.start ≡ self.old.start }
+    {
+        let gate = Gate {
+            file: self.file,
+            at: last_gate(&self.log),
+        };
+        note_rows(&mut self.index, gate, offset, &self.staged[FRONT..]);
+        let marked = Marked {
+            marker: *marker,
+            at: gate.at,
+        };
+        self.markers.push(marked).unwrap();
+        self.staged.truncate(FRONT);
     }
 
     /// The coins of the store, as this disk has them at their places.

@@ -5,4 +5,6 @@ use Rattle.coin_store.proofs.Indexes.{remove_is}
 use Rattle.coin_store.proofs.index.Index.remove.Goals as goal
 
 pub returns : goal.returns
-returns c = remove_is c.self.inside.places c.remove.new.self (record { outpoint = c.args.key.now }) c.remove.ensures.updates ∙ ap (λ (p : CoinPlaces). remove p c.args.key.now) c.self.view_is
+returns c =
+    c.count.ensures
+    ∙ remove_is c.self.inside.places c.remove-old.new.self (record { outpoint = c.args.key.now }) c.remove-old.ensures.updates ∙ ap (λ (p : CoinPlaces). remove p c.args.key.now) c.self.view_is

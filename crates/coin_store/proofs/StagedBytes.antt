@@ -1,0 +1,69 @@
+-- Bytes of a row that are moved where they stand.
+use Rattle.std.specs.Prelude.{◌≡◌, ℕ, ◌+◌, ◌-◌, ◌≤◌, List, [], ◌∷◌, ◌++◌, length, take, drop, Result, Ok, Err, OnOk, refl}
+use Rattle.std.proofs.Common.{sym, ap, ◌∙◌, append_assoc, arith}
+use Rattle.std.proofs.lemmas.List.{append-nil, length-append, take_at, drop_at, take_all, drop_all, drop-drop}
+use borrow.Rule.Slice.PartMut.{put_mid}
+use Rattle.base_types.specs.Bytes.{compact}
+use Rattle.coin_codec.specs.KeyText.{key_text}
+use Rattle.coin_store.specs.Batches.{Row, covered, value_text, head_text, row_text}
+use Rattle.coin_store.specs.RowLaws.{length-covered}
+
+-- what holds where there is a value
+pub ok_is : {E : Type 0} {T : Type 0} (result : Result T E) (v : T) (P : Type 0) → result ≡ Ok v → OnOk result P → P
+ok_is (Ok w) v P e p = p
+ok_is (Err d) v P e p = absurd cc
+
+-- a part between two others is written over
+pub mid_written : (a k : ℕ) (front mid rest ys : List ℕ) → a ≡ length front → k ≡ length mid → put_mid a k (front ++ (mid ++ rest)) ys ≡ front ++ (ys ++ rest)
+mid_written a k front mid rest ys begins long =
+    let all = front ++ (mid ++ rest) in
+    let behind : drop a all ≡ mid ++ rest = drop_at front (mid ++ rest) a (sym begins) in
+    ap (λ (l : List ℕ). l ++ (ys ++ drop k (drop a all))) (take_at front (mid ++ rest) a (sym begins))
+    ∙ ap (λ (l : List ℕ). front ++ (ys ++ drop k l)) behind
+    ∙ ap (λ (l : List ℕ). front ++ (ys ++ l)) (drop_at mid rest k (sym long))
+
+-- a coin is covered, and then the length behind it is moved before it
+pub row_closed : (start len k : ℕ) (mask bytes covering turned front value size : List ℕ) → k ≡ start + len - start → covering ≡ covered mask (take k (drop start bytes))
+    → (n : ℕ) → (let now = put_mid start k bytes covering in (n ≡ length now - start) → turned ≡ drop len (take n (drop start now)) ++ take len (take n (drop start now))
+    → bytes ≡ front ++ (value ++ size) → start ≡ length front → len ≡ length value → put_mid start n now turned ≡ front ++ (size ++ covered mask value))
+row_closed start len k mask bytes covering turned front value size k_is cover n n_is turn is begins long =
+    let hidden = covered mask value in
+    let same : k ≡ length value = omega (arith, k_is, long) in
+    let part : take k (drop start bytes) ≡ value =
+    ap (λ (b : List ℕ). take k (drop start b)) is ∙ ap (take k) (drop_at front (value ++ size) start (sym begins)) ∙ take_at value size k (sym same) in
+    let covering_is : covering ≡ hidden = cover ∙ ap (covered mask) part in
+    let size_of : length hidden ≡ length value = length-covered 0 mask value in
+    let now = put_mid start k bytes covering in
+    let now_is : now ≡ front ++ (hidden ++ size) =
+    ap (λ (b : List ℕ). put_mid start k b covering) is ∙ mid_written start k front value size covering begins same ∙ ap (λ (c : List ℕ). front ++ (c ++ size)) covering_is in
+    let tail : drop start now ≡ hidden ++ size = ap (drop start) now_is ∙ drop_at front (hidden ++ size) start (sym begins) in
+    let reach : n ≡ length (hidden ++ size) = omega (arith, n_is, begins, ap length now_is, length-append front (hidden ++ size)) in
+    let whole : take n (drop start now) ≡ hidden ++ size = ap (take n) tail ∙ take_all n (hidden ++ size) (omega (arith, reach)) in
+    let turned_is : turned ≡ size ++ hidden =
+    turn ∙ ap (λ (b : List ℕ). drop len b ++ take len b) whole
+    ∙ ap (λ (b : List ℕ). b ++ take len (hidden ++ size)) (drop_at hidden size len (omega (arith, long, size_of)))
+    ∙ ap (λ (b : List ℕ). size ++ b) (take_at hidden size len (omega (arith, long, size_of))) in
+    let ended : front ++ (hidden ++ size) ≡ front ++ ((hidden ++ size) ++ []) = ap (λ (b : List ℕ). front ++ b) (sym (append-nil (hidden ++ size))) in
+    ap (λ (b : List ℕ). put_mid start n b turned) (now_is ∙ ended)
+    ∙ mid_written start n front (hidden ++ size) [] turned begins reach
+    ∙ ap (λ (b : List ℕ). front ++ b) (append-nil turned ∙ turned_is)
+
+pub row_long : (mask : List ℕ) (row : Row) → length (row_text mask row) ≡ length (key_text row.key) + length (compact (length (value_text row.coin))) + length (value_text row.coin)
+unfolding row_text head_text
+row_long mask row =
+    let value = value_text row.coin in
+    omega (arith, length-append (key_text row.key ++ compact (length value)) (covered mask value), length-append (key_text row.key) (compact (length value)), length-covered 0 mask value)
+
+-- behind the marker the rows stay
+pub rows_stay : (len from : ℕ) (new shown items text : List ℕ) → len ≡ length items → shown ≡ items → length new ≡ length shown → drop from new ≡ text ++ drop 65 shown → from + length text ≡ 65
+    → drop 65 (take len (new ++ drop (length new) items)) ≡ drop 65 items
+rows_stay len from new shown items text size is same there begins =
+    let long : length new ≡ length items = same ∙ ap length is in
+    let whole : take len (new ++ drop (length new) items) ≡ new =
+    take_at new (drop (length new) items) len (omega (arith, long, size)) in
+    ap (drop 65) whole
+    ∙ ap (λ (n : ℕ). drop n new) (sym begins)
+    ∙ sym (drop-drop (length text) from new)
+    ∙ ap (drop (length text)) there
+    ∙ drop_at text (drop 65 shown) (length text) refl
+    ∙ ap (drop 65) is

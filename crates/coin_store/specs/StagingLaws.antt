@@ -1,0 +1,42 @@
+-- A store that no batch was added to knows the same ones.
+use Rattle.std.specs.Prelude.{◌≡◌, ℕ, List, Option}
+use Rattle.std.specs.FinMap.{get, empty}
+use Rattle.std.proofs.Common.{sym, ap, subst, ◌∙◌}
+use Rattle.disk_model.specs.Disk.{Image}
+use Rattle.base_types.specs.declared.hash.OutPoint.{OutPoint}
+use Rattle.batch_log.specs.OpenLog.{OpenLog, Stands, Unchanged}
+use Rattle.batch_log.specs.Records.{EndsClosed}
+use Rattle.coin_store.specs.declared.store.CoinStore.{CoinStore}
+use Rattle.coin_store.specs.Batches.{Batch}
+use Rattle.coin_store.specs.Places.{places_after}
+use Rattle.coin_store.specs.Staging.{SameRows}
+use Rattle.coin_store.specs.Store.{Knows, Holds, marks, texts}
+
+pub stands_unchanged : (contents : Option Image) (left : Image → Type 0) (old new : OpenLog) (payloads : List (List ℕ)) → Unchanged old new → Stands contents left old payloads → Stands contents left new payloads
+stands_unchanged contents left old new payloads same stands =
+    let file = same.file in
+    record {
+      holds = record {
+        image = stands.holds.image;
+        told = stands.holds.told;
+        reads = subst (λ (f : ℕ). EndsClosed payloads (stands.holds.image f)) (sym file) stands.holds.reads;
+        outcomes = λ c now. subst (λ (f : ℕ). EndsClosed payloads (c f)) (sym file) (stands.holds.outcomes c now);
+      };
+      end = same.end ∙ stands.end;
+      places = same.places ∙ stands.places;
+    }
+
+pub knows_same : (old new : CoinStore) (batches : List Batch) → SameRows old new → Knows old batches → Knows new batches
+knows_same old new batches same k = record {
+  fits = k.fits;
+  markers = same.markers ∙ k.markers ∙ ap (λ (m : List ℕ). marks m 0 batches) (sym same.mask);
+  places = λ q. same.places q ∙ k.places q
+      ∙ ap (λ (f : ℕ). get (places_after f old.mask 0 empty batches) q) (sym same.log.file)
+      ∙ ap (λ (m : List ℕ). get (places_after new.log.file m 0 empty batches) q) (sym same.mask);
+}
+
+pub holds_same : (contents : Option Image) (left : Image → Type 0) (old new : CoinStore) (batches : List Batch) → SameRows old new → Holds contents left old batches → Holds contents left new batches
+holds_same contents left old new batches same h = record {
+  knows = knows_same old new batches same h.knows;
+  stands = subst (λ (m : List ℕ). Stands contents left new.log (texts m batches)) (sym same.mask) (stands_unchanged contents left old.log new.log (texts old.mask batches) same.log h.stands);
+}

@@ -8,10 +8,13 @@ use Rattle.base_types.specs.declared.program.Salt.{Salt}
 unfoldable pub folded : ℕ → ℕ → ℕ
 folded a b = bit_xor (a * b % 2 ^ 64) (a * b / 2 ^ 64)
 
--- the eight bytes from i on as a number, the lowest first
+-- the eight bytes from i on
+abbrev pub eight_at : List ℕ → ℕ → List ℕ
+eight_at bs i = slice_index bs i ∷ slice_index bs (i + 1) ∷ slice_index bs (i + 2) ∷ slice_index bs (i + 3) ∷ slice_index bs (i + 4) ∷ slice_index bs (i + 5) ∷ slice_index bs (i + 6) ∷ slice_index bs (i + 7) ∷ []
+
+-- and as a number, the lowest first
 unfoldable pub word_at : List ℕ → ℕ → ℕ
-word_at bs i = from_le_bytes w64
-    (slice_index bs i ∷ slice_index bs (i + 1) ∷ slice_index bs (i + 2) ∷ slice_index bs (i + 3) ∷ slice_index bs (i + 4) ∷ slice_index bs (i + 5) ∷ slice_index bs (i + 6) ∷ slice_index bs (i + 7) ∷ [])
+word_at bs i = from_le_bytes w64 (eight_at bs i)
 
 unfoldable pub hash_of : Salt → OutPoint → ℕ
 hash_of s k =
@@ -20,6 +23,6 @@ hash_of s k =
     let high = folded (bit_xor (word_at bs 16) s.b) (bit_xor (word_at bs 24) s.a) in
     folded (bit_xor low k.index) (bit_xor high 0x9e37_79b9_7f4a_7c15)
 
--- the key's bucket among n
+-- the key's bucket among n: as far among them as the hash is among all words
 unfoldable pub bucket_of : Salt → ℕ → OutPoint → ℕ
-bucket_of s n k = hash_of s k % n
+bucket_of s n k = hash_of s k * n / 2 ^ 64

@@ -1,6 +1,6 @@
 //! The salted hash of an outpoint, over words of eight bytes.
-ghost use Rattle.std.specs.Prelude.{◌≡◌, ◌+◌, ◌<◌, ◌≤◌};
-ghost use Rattle.coin_index.specs.Hash.{folded, word_at, hash_of, bucket_of};
+ghost use Rattle.std.specs.Prelude.{◌≡◌, ◌≢◌, ◌+◌, ◌<◌, ◌≤◌, true, false};
+ghost use Rattle.coin_index.specs.Hash.{folded, eight_at, word_at, hash_of, bucket_of};
 
 use base_types::{OutPoint, Salt};
 
@@ -38,11 +38,40 @@ fn hash(salt: &Salt, key: &OutPoint) -> u64
     fold(low ^ key.index as u64, high ^ 0x9e37_79b9_7f4a_7c15)
 }
 
-/// The bucket of a key among `count` buckets.
+/// The bucket of a key among `count` buckets: as far among them as the hash is among all words, for which no division
+/// is needed.
 pub(crate) fn bucket(salt: &Salt, key: &OutPoint, count: usize) -> usize
     requires { 0 < count }
     ensures bucket { result ≡ bucket_of salt.now count key.now }
     ensures below { result < count }
 {
-    (hash(salt, key) % count as u64) as usize
+    (hash(salt, key) as u128 * count as u128 >> 64) as usize
+}
+
+// Whether the eight bytes from `at` on are the same.
+fn has_same_word(a: &[u8; 32], b: &[u8; 32], at: usize) -> bool
+    requires { at + 8 ≤ 32 }
+    ensures same { result ≡ true → eight_at a.now at ≡ eight_at b.now at }
+    ensures other { result ≡ false → a.now ≢ b.now }
+{
+    word(a, at) == word(b, at)
+}
+
+// Word by word, which is faster than byte by byte.
+fn has_same_bytes(a: &[u8; 32], b: &[u8; 32]) -> bool
+    ensures same { result ≡ true → a.now ≡ b.now }
+    ensures other { result ≡ false → a.now ≢ b.now }
+{
+    has_same_word(a, b, 0)
+        && has_same_word(a, b, 8)
+        && has_same_word(a, b, 16)
+        && has_same_word(a, b, 24)
+}
+
+/// Whether two keys are the same.
+pub(crate) fn is_same(a: &OutPoint, b: &OutPoint) -> bool
+    ensures same { result ≡ true → a.now ≡ b.now }
+    ensures other { result ≡ false → a.now ≢ b.now }
+{
+    a.index == b.index && has_same_bytes(&a.txid.bytes, &b.txid.bytes)
 }

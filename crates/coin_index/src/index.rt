@@ -1,5 +1,5 @@
 //! The index: its buckets, and the calls on its chains.
-ghost use Rattle.std.specs.Prelude.{◌≡◌, ◌≢◌, ◌+◌, ◌*◌, ◌<◌, ◌≤◌, List, ◌∷◌, ◌++◌, Some, None, IsSome, OnOk, OnErr, IfOk, length, replicate, slice_set};
+ghost use Rattle.std.specs.Prelude.{◌≡◌, ◌≢◌, ◌+◌, ◌<◌, ◌≤◌, List, ◌∷◌, ◌++◌, Some, None, IsSome, OnOk, OnErr, IfOk, length, replicate, slice_set};
 ghost use Rattle.std.specs.FinMap as map;
 ghost use Rattle.base_types.specs.Keys.{outpoint_cmp};
 ghost use Rattle.slot_pool.specs.Changes.{ChangesOnly};
@@ -10,7 +10,7 @@ ghost use Rattle.coin_index.specs.Index.{AreChained, IsIndex, IsNew, bucket_coun
 ghost use Rattle.coin_index.specs.Rehash.{AreSplit};
 
 use crate::chained::Chained;
-use crate::hash::bucket;
+use crate::hash::{bucket, is_same};
 use base_types::{OutPoint, Salt};
 use slot_pool::{Pool, Slot};
 use std::alloc::{AllocError, Global};
@@ -80,8 +80,8 @@ impl Index {
         bucket(&self.salt, key, self.buckets.len())
     }
 
-    /// Makes room for `n` keys: at least a bucket for every two of them, so that chains stay short. What is found stays.
-    /// The chains move within the pool, so that the buckets are all the memory that it takes.
+    /// Makes room for `n` keys: a bucket for each of them at least, so that most chains have one slot or none. What is
+    /// found stays. The chains move within the pool, so that the buckets are all the memory that it takes.
     pub fn reserve_buckets<T: Chained>(
         &mut self,
         pool: &mut Pool<T>,
@@ -91,14 +91,15 @@ impl Index {
         ensures index { (found : map.FinMap outpoint_cmp Slot) → IsIndex T.key_of T.chain_of pool.old.values self.old found
             → IsIndex T.key_of T.chain_of pool.new.values self.new found }
         ensures kept { ChangesOnly T.with_chain pool.old pool.new }
-        ensures ok { OnOk result ((0 < bucket_count self.new) × (n ≤ 2 * bucket_count self.new)) }
+        ensures ok { OnOk result ((0 < bucket_count self.new) × (n ≤ bucket_count self.new)) }
         ensures err { OnErr result ((self.new ≡ self.old) × (pool.new ≡ pool.old)) }
     {
         let wanted = n as usize;
-        if !self.buckets.is_empty() && wanted <= self.buckets.len() * 2 {
+        if !self.buckets.is_empty() && wanted <= self.buckets.len() {
             return Ok(());
         }
-        let buckets = empty_buckets(self.alloc, wanted.max(LEAST_BUCKETS))?;
+        // Twice as many as are asked for, so that keys that come one by one move seldom.
+        let buckets = empty_buckets(self.alloc, (wanted * 2).max(LEAST_BUCKETS))?;
         let mut grown = Index {
             buckets,
             salt: self.salt,
@@ -140,7 +141,7 @@ impl Index {
         let mut at = self.buckets[self.place(key)];
         while let Some(slot) = at {
             let value = pool.get(slot);
-            if value.key() == *key {
+            if is_same(&value.key(), key) {
                 return Some(slot);
             }
             at = value.chain();

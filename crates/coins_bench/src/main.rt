@@ -4,12 +4,15 @@
 
 mod blocks;
 mod headers;
+mod index;
+mod shelf;
+mod words;
 
 use anyhow::{Result, bail};
 use std::env;
 
 const USAGE: &str =
-    "usage: coins_bench make-blocks FILE COUNT | read-blocks FILE | accept-headers COUNT";
+    "usage: coins_bench make-blocks FILE COUNT | read-blocks FILE | accept-headers COUNT | index COUNT | fill-index COUNT";
 
 // The number in a word.
 fn count_of(word: Option<String>) -> Result<u32> {
@@ -40,6 +43,8 @@ fn main(rt: HostRuntime) -> Result<()> {
         }
         "read-blocks" => blocks::read(&rt, name_of(words.next())?.as_str()),
         "accept-headers" => headers::accept(&rt, count_of(words.next())?),
+        "index" => index::measure(&rt, count_of(words.next())?),
+        "fill-index" => index::fill(&rt, count_of(words.next())?),
         _ => bail!("{USAGE}"),
     }
 }

@@ -18,18 +18,13 @@ done | awk '
         printf "%d keys: finding %d us, hash map %d us, ratio %.2f\n", v[4], v[5], v[6], v[5] / v[6]
         printf "%d keys: taking %d us, hash map %d us, ratio %.2f\n", v[7], v[8], v[9], v[8] / v[9]
     }'
-# The greatest resident memory of a run, in bytes.
-peak() {
-    /usr/bin/time -f %M "$bench" fill-index "$1" 2>&1 >/dev/null | awk '{ print $1 * 1024 }'
-}
-sizes=$("$bench" fill-index 0) || exit 1
-empty=$(peak 0)
-full=$(peak "$count")
+empty=$("$bench" fill-index 0) || exit 1
+full=$("$bench" fill-index "$count") || exit 1
 # A bucket takes as much as a link, and there are two for each key just after buckets were added. A place takes a byte
 # that says whether it is filled, and four in the list of vacant places, which is up to an eighth longer.
-echo "$sizes $empty $full $count" | awk '
+echo "$empty $full" | awk '
     {
         entry = $2; link = $3
         printf "an entry of %d bytes, %d of them its link: beside key and value %.1f bytes by its parts, %.1f measured\n",
-            entry, link, link + 2 * link + 1 + 4 * 9 / 8, ($5 - $4) / $6 - entry + link
+            entry, link, link + 2 * link + 1 + 4 * 9 / 8, ($8 - $4) * 1024 / $5 - entry + link
     }'

@@ -6,6 +6,7 @@ use anyhow::{Result, bail};
 use base_types::{Hash32, OutPoint, Salt, hash_twice};
 use std::alloc::{AllocError, Global};
 use std::collections::HashMap;
+use std::fs;
 use std::hash::{BuildHasherDefault, FoldHasher};
 use std::time::{Duration, Instant};
 
@@ -138,13 +139,26 @@ pub fn measure(rt: &HostRuntime, count: u32) -> Result<()> {
     Ok(())
 }
 
-/// Stores so many keys, so that the memory which the process takes can be read.
+// The greatest memory that this process took so far, in kibibytes.
+fn peak(rt: &HostRuntime) -> Result<u64> {
+    let status = fs::read_to_string(rt, "/proc/self/status")?;
+    for line in status.lines() {
+        if let Some(rest) = line.strip_prefix("VmHWM:") {
+            return Ok(rest.trim_end_matches("kB").trim().parse::<u64>()?);
+        }
+    }
+    bail!("the system doesn't say how much memory a process takes");
+}
+
+/// Stores so many keys. Prints how many bytes an entry takes, how many of them are its link, and the greatest memory that
+/// this process took, in kibibytes.
 pub fn fill(rt: &HostRuntime, count: u32) -> Result<()> {
     let mut shelf = Shelf::new(rt.alloc(), &SALT);
     for number in 0..count {
         shelf.store(key_of(number), number as u64)?;
     }
     let (entry, link) = shelf.sizes();
-    println!(rt; "{count} {entry} {link}")?;
+    let peak = peak(rt)?;
+    println!(rt; "{count} {entry} {link} {peak}")?;
     Ok(())
 }

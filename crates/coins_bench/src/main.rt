@@ -6,13 +6,14 @@ mod blocks;
 mod headers;
 mod index;
 mod shelf;
+mod snapshot;
 mod words;
 
 use anyhow::{Result, bail};
 use std::env;
 
 const USAGE: &str =
-    "usage: coins_bench make-blocks FILE COUNT | read-blocks FILE | accept-headers COUNT | index COUNT | fill-index COUNT";
+    "usage: coins_bench make-blocks FILE COUNT | read-blocks FILE | accept-headers COUNT | index COUNT | fill-index COUNT | snapshot COUNT";
 
 // The number in a word.
 fn count_of(word: Option<String>) -> Result<u32> {
@@ -45,6 +46,7 @@ fn main(rt: HostRuntime) -> Result<()> {
         "accept-headers" => headers::accept(&rt, count_of(words.next())?),
         "index" => index::measure(&rt, count_of(words.next())?),
         "fill-index" => index::fill(&rt, count_of(words.next())?),
+        "snapshot" => snapshot::read(&rt, count_of(words.next())?),
         _ => bail!("{USAGE}"),
     }
 }

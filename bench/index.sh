@@ -20,11 +20,12 @@ done | awk '
     }'
 empty=$("$bench" fill-index 0) || exit 1
 full=$("$bench" fill-index "$count") || exit 1
-# A bucket takes as much as a link, and there are two for each key just after buckets were added. A place takes a byte
-# that says whether it is filled, and four in the list of vacant places, which is up to an eighth longer.
+# A bucket takes as much as a link. Just after buckets were added there are two for each key, and while they are added one
+# more. A place takes a byte that says whether it is filled, four in the list of vacant places, which is up to an eighth
+# longer, and less than half a byte of what its chunk takes itself.
 echo "$empty $full" | awk '
     {
-        entry = $2; link = $3
-        printf "an entry of %d bytes, %d of them its link: beside key and value %.1f bytes by its parts, %.1f measured\n",
-            entry, link, link + 2 * link + 1 + 4 * 9 / 8, ($8 - $4) * 1024 / $5 - entry + link
+        entry = $2; link = $3; parts = link + 2 * link + 1 + 4 * 9 / 8 + 0.5
+        printf "an entry of %d bytes, %d of them its link: beside key and value %.1f bytes by its parts, %.1f while buckets are added, %.1f measured\n",
+            entry, link, parts, parts + link, ($8 - $4) * 1024 / $5 - entry + link
     }'

@@ -28,7 +28,7 @@ split (x ∷ xs) (suc k) lt =
 abbrev pub Sets : ℕ → List (List ℕ) → List TxIn → List TxIn → Type 0
 Sets k stack old new = (before after : List TxIn) (input : TxIn) → length before ≡ k → old ≡ before ++ input ∷ after → new ≡ before ++ with_stack input stack ∷ after
 
-regroup : (before : List TxIn) (x : TxIn) (read : Result (List TxIn × Input) Wrong) → with_front before (read >>= λ y. Ok (x ∷ y.0, y.1)) ≡ with_front (before ++ x ∷ []) read
+pub regroup : (before : List TxIn) (x : TxIn) (read : Result (List TxIn × Input) Wrong) → with_front before (read >>= λ y. Ok (x ∷ y.0, y.1)) ≡ with_front (before ++ x ∷ []) read
 regroup before x (Ok y) = ap (λ (ns : List TxIn). Ok (ns, y.1)) (simp append_assoc)
 regroup before x (Err f) = refl
 

@@ -10,6 +10,7 @@ pub mod InputLaws
 pub mod Loop
 pub mod Merkle
 pub mod Reading
+pub mod Skipping
 pub mod Text
 pub mod TxLaws
 pub mod Weight

@@ -1,9 +1,10 @@
-//! Transactions and blocks: their types, their one text, reading and writing it, and the hashes and sizes that are taken
+//! Transactions and blocks: their types, their one text, reading, testing and writing it, and the hashes and sizes that are taken
 //! over it. The definitions of the frames of a block file, of the merkle root and of the witness commitment stand in
 //! `specs`, for the crates that compute them.
 #![tactic(auto)]
 
 mod block;
+mod checking;
 mod encoder;
 mod encoding;
 mod fault;
@@ -14,6 +15,7 @@ mod witness;
 mod writing;
 
 pub use block::{Block, Header, Inputs, Outputs, Stack, Tx, TxIn, Txs};
+pub use checking::is_block;
 pub use fault::{BlockError, BlockFault};
 pub use hashing::{block_hash, txid, wtxid};
 pub use reading::{read_block, read_header};

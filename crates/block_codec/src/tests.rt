@@ -76,6 +76,7 @@ fn blocks_read_and_write(rt: HostRuntime) -> Result<(), Fail> {
     let plain = with_header(rt.alloc(), &[&[1], &PLAIN_COINBASE])?;
     let full = with_header(rt.alloc(), &[&[2], &COINBASE, &SPEND])?;
     for (bytes, stripped, weighs) in [(&plain, 152, 608), (&full, 249, 1040)] {
+        assert!(rt; is_block(bytes));
         let block = read_block(rt.alloc(), bytes).ok().ok_or("a block")?;
         let mut out = Vec::new(rt.alloc());
         out.push(9)?;
@@ -158,6 +159,7 @@ fn faults_have_their_offsets(rt: HostRuntime) -> Result<(), Fail> {
         let bytes = with_header(rt.alloc(), &[tail])?;
         let fault = read_block(rt.alloc(), &bytes).err();
         assert_eq!(rt; fault, Some(BlockFault::Bad { error, at }), "at {at}");
+        assert!(rt; !is_block(&bytes));
     }
     Ok(())
 }

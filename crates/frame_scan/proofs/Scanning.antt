@@ -1,6 +1,6 @@
 -- The frames of bytes, from one place to the next.
 use Rattle.std.proofs.Common.{◌≡◌, ◌≢◌, ◌<◌, ◌≤◌, ◌+◌, ◌-◌, ℕ, zero, suc, Bool, true, false, List, [], ◌∷◌, ◌++◌, length, take, drop, get_or, refl, sym, ap, ◌∙◌, arith}
-use Rattle.std.specs.Prelude.{Option, Some, None, Ok, Err, if◌then◌else◌, nat_eq}
+use Rattle.std.specs.Prelude.{Option, Some, None, Result, Ok, Err, is_ok, if◌then◌else◌, nat_eq}
 use Rattle.std.specs.List.{between}
 use Rattle.std.specs.Result.{result_ok}
 use Rattle.std.specs.Option.{unwrap_or}
@@ -102,9 +102,15 @@ block_taken bytes len block is read = λ rest follows.
     block_here (bytes ++ rest) len block (is.1 rest).0 (is.1 rest).1 (ap block_of (behind_head bytes rest len is.0) ∙ read)
     ∙ ap (λ (zs : List ℕ). block ∷ frames_after 0 zs) (drop-append-le (8 + len) bytes rest is.0)
 
-pub head_passed : (bytes : List ℕ) (len : ℕ) (wrong : Wrong) → IsHeadOf bytes (Whole len) → block_of (between 8 (8 + len) bytes) ≡ Err wrong → SameFrames false bytes (drop 1 bytes)
-head_passed bytes len wrong is read = λ rest follows.
-    no_block_here (bytes ++ rest) len wrong (is.1 rest).0 (is.1 rest).1 (ap block_of (behind_head bytes rest len is.0) ∙ read)
+-- what is not read has a fault
+fault_of : (read : Result Block Wrong) → is_ok read ≡ false → (wrong : Wrong) × (read ≡ Err wrong)
+fault_of (Ok block) refused = absurd cc
+fault_of (Err wrong) refused = (wrong, refl)
+
+pub head_passed : (bytes : List ℕ) (len : ℕ) → IsHeadOf bytes (Whole len) → is_ok (block_of (between 8 (8 + len) bytes)) ≡ false → SameFrames false bytes (drop 1 bytes)
+head_passed bytes len is refused = λ rest follows.
+    let fault = fault_of (block_of (between 8 (8 + len) bytes)) refused in
+    no_block_here (bytes ++ rest) len fault.0 (is.1 rest).0 (is.1 rest).1 (ap block_of (behind_head bytes rest len is.0) ∙ fault.1)
     ∙ ap (frames_after 0) (drop-append-le 1 bytes rest (omega (arith, is.0)))
 
 -- ---- bytes with which no head begins

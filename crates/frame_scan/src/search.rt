@@ -9,7 +9,7 @@ ghost use Rattle.frame_scan.specs.Search.{IsRest, Finds, SameFrames, TakesBlock}
 use crate::fault::FrameFault;
 use crate::head::{Head, MAGIC, head_of};
 use crate::window::Window;
-use block_codec::{Block, BlockFault, read_block};
+use block_codec::{Block, BlockFault, is_block, read_block};
 use memchr::memchr;
 use std::alloc::Global;
 
@@ -54,21 +54,24 @@ fn pass_to_magic(window: &mut Window)
     window.pass(count);
 }
 
-/// Takes the block behind a head. Where those bytes are none, it passes the first byte of the head.
+/// Takes the block behind a head. Where those bytes are none, it passes the first byte of the head, and takes no memory.
 fn take_block(alloc: Global, window: &mut Window, len: usize) -> Result<Option<Block>, FrameFault>
     requires { IsHeadOf window.old (Whole len) }
     ensures found { TakesBlock len result window.old window.new }
     ensures memory { IfErr result (λ error. error ≡ NoMemory) }
 {
-    match read_block(alloc, &window.as_slice()[8..8 + len]) {
+    let bytes = &window.as_slice()[8..8 + len];
+    // A stranger can fill a file with false heads, so a block is only read where one stands.
+    if !is_block(bytes) {
+        window.pass(1);
+        return Ok(None);
+    }
+    match read_block(alloc, bytes) {
         Ok(block) => {
             window.pass(8 + len);
             Ok(Some(block))
         }
         Err(BlockFault::NoMemory) => Err(FrameFault::NoMemory),
-        Err(BlockFault::Bad { .. }) => {
-            window.pass(1);
-            Ok(None)
-        }
+        Err(BlockFault::Bad { .. }) => unreachable!(),
     }
 }

@@ -3,8 +3,10 @@
 #![tactic(auto)]
 
 mod blocks;
+mod fold;
 mod headers;
 mod index;
+mod scan;
 mod shelf;
 mod snapshot;
 mod words;
@@ -13,7 +15,7 @@ use anyhow::{Result, bail};
 use std::env;
 
 const USAGE: &str =
-    "usage: coins_bench make-blocks FILE COUNT | read-blocks FILE | accept-headers COUNT | index COUNT | fill-index COUNT | snapshot COUNT";
+    "usage: coins_bench make-blocks FILE COUNT | read-blocks FILE | accept-headers COUNT | index COUNT | fill-index COUNT | snapshot COUNT | fold COUNT | scan COUNT CLAIM";
 
 // The number in a word.
 fn count_of(word: Option<String>) -> Result<u32> {
@@ -47,6 +49,11 @@ fn main(rt: HostRuntime) -> Result<()> {
         "index" => index::measure(&rt, count_of(words.next())?),
         "fill-index" => index::fill(&rt, count_of(words.next())?),
         "snapshot" => snapshot::read(&rt, count_of(words.next())?),
+        "fold" => fold::measure(&rt, count_of(words.next())?),
+        "scan" => {
+            let count = count_of(words.next())?;
+            scan::measure(&rt, count, count_of(words.next())?)
+        }
         _ => bail!("{USAGE}"),
     }
 }

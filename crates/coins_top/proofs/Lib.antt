@@ -1,3 +1,7 @@
-pub mod Filling
-pub mod Names
-pub mod Replying
+pub mod Adding
+pub mod AnsweredLines
+pub mod FoldingFiles
+pub mod Pieces
+pub mod Running
+pub mod ServingLines
+pub mod Ways

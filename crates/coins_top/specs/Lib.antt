@@ -1,3 +1,6 @@
-pub mod Command
-pub mod Reply
+pub mod FileFolds
+pub mod FoldState
+pub mod Folds
 pub mod Run
+pub mod Serving
+pub mod Session

@@ -1,42 +1,12 @@
--- What a run reads and writes.
-use Rattle.std.specs.Prelude.{ℕ, List, Option}
-use Rattle.std.specs.Io.KnownBytes.{Appends}
+-- How a run ends, and what it has then read and written.
+use Rattle.std.specs.Prelude.{◌≡◌, ◌≢◌, ◌≤◌, ℕ, List, [], ◌++◌, length, Option, Some, Result, Ok, Err, ⊤}
 use Rattle.base_types.specs.declared.program.Status.{Status}
 use Rattle.base_types.specs.declared.program.Status.TheVariants.{Done, DiskFault, HostFault, InFault, OutFault, NoMemory, Damaged, Usage, TooLong, Full, BadCommitments, CacheFull}
 use Rattle.io_traits.specs.Host.{Held}
-use Rattle.io_traits.specs.Streams.{AppendsPart}
-use Rattle.coins_top.specs.Command.{line_of}
-use Rattle.coins_top.specs.Reply.{IsAnswer}
-
--- a run that ends so has written nothing
-abbrev pub IsSilent : Status → Type 0
-IsSilent DiskFault = ⊥
-IsSilent HostFault = ⊥
-IsSilent (Damaged file at) = ⊥
-IsSilent (Full file) = ⊥
-IsSilent BadCommitments = ⊥
-IsSilent CacheFull = ⊥
-IsSilent Done = ⊥
-IsSilent InFault = Unit {0}
-IsSilent OutFault = ⊥
-IsSilent NoMemory = Unit {0}
-IsSilent Usage = Unit {0}
-IsSilent TooLong = Unit {0}
-
--- a run that ends so has taken its input to the end
-abbrev pub IsAnswered : Status → Type 0
-IsAnswered DiskFault = ⊥
-IsAnswered HostFault = ⊥
-IsAnswered (Damaged file at) = ⊥
-IsAnswered (Full file) = ⊥
-IsAnswered BadCommitments = ⊥
-IsAnswered CacheFull = ⊥
-IsAnswered Done = Unit {0}
-IsAnswered InFault = ⊥
-IsAnswered OutFault = Unit {0}
-IsAnswered NoMemory = ⊥
-IsAnswered Usage = ⊥
-IsAnswered TooLong = ⊥
+use Rattle.coins_top.specs.declared.stop.Stop.{Stop}
+use Rattle.coins_top.specs.declared.stop.Stop.TheVariants as stop
+use Rattle.coins_top.specs.Serving.{Served}
+use Rattle.coins_top.specs.Session.{setting_of}
 
 -- the statuses of a run that has no disk, no commitments and no cache
 abbrev pub IsOfRun : Status → Type 0
@@ -53,29 +23,44 @@ IsOfRun (Full file) = ⊥
 IsOfRun BadCommitments = ⊥
 IsOfRun CacheFull = ⊥
 
--- what the answering of an input that was taken may end with
-abbrev pub IsAnswering : Status → Type 0
-IsAnswering DiskFault = ⊥
-IsAnswering HostFault = ⊥
-IsAnswering (Damaged file at) = ⊥
-IsAnswering (Full file) = ⊥
-IsAnswering BadCommitments = ⊥
-IsAnswering CacheFull = ⊥
-IsAnswering Done = Unit {0}
-IsAnswering InFault = ⊥
-IsAnswering OutFault = Unit {0}
-IsAnswering NoMemory = Unit {0}
-IsAnswering Usage = ⊥
-IsAnswering TooLong = ⊥
+-- those that the input may end with
+abbrev pub IsOfInput : Status → Type 0
+IsOfInput Done = Unit {0}
+IsOfInput DiskFault = ⊥
+IsOfInput HostFault = ⊥
+IsOfInput InFault = Unit {0}
+IsOfInput OutFault = Unit {0}
+IsOfInput NoMemory = Unit {0}
+IsOfInput (Damaged file at) = ⊥
+IsOfInput Usage = ⊥
+IsOfInput TooLong = Unit {0}
+IsOfInput (Full file) = ⊥
+IsOfInput BadCommitments = ⊥
+IsOfInput CacheFull = ⊥
 
--- an answer to the input was written whole
-pub record WritesWhole (held : Option Held) (input : List ℕ) (rose : Type 0) (old new : Option (List ℕ)) : Type 0 where
-  pub text : List ℕ
-  pub is_answer : IsAnswer held (line_of input) rose text
-  pub added : Appends old new text
+-- the status where answering lines ended so
+abbrev pub status_of_end : {A : Type 0} → Result A Stop → Status
+status_of_end (Ok done) = Done
+status_of_end (Err stop.NoMemory) = NoMemory
+status_of_end (Err stop.OutFault) = OutFault
 
--- a first part of an answer to the input was written
-pub record WritesPart (held : Option Held) (input : List ℕ) (rose : Type 0) (old new : Option (List ℕ)) : Type 0 where
-  pub text : List ℕ
-  pub is_answer : IsAnswer held (line_of input) rose text
-  pub added : AppendsPart old new text
+-- What was taken of the bytes of an input, and what is left. Where there are too many, the most were taken, and one more
+-- was looked at.
+pub record Takes (result : Status) (bytes taken : List ℕ) (now_left : Option (List ℕ)) : Type 0 where
+  pub beyond : List ℕ
+  pub rest : List ℕ
+  pub split : bytes ≡ taken ++ beyond ++ rest
+  pub left : now_left ≡ Some rest
+  pub most : length taken ≤ 16777216
+  pub one : result ≡ TooLong → (length taken ≡ 16777216) × (length beyond ≡ 1)
+  pub none : result ≢ TooLong → beyond ≡ []
+
+-- the lines that were taken are answered
+pub record AnswersInput (result : Status) (headers : ℕ) (bytes before : List ℕ) (held : Held) (left output : Option (List ℕ)) (host : Option Held) (faults_before faults_after : ℕ) : Type 0 where
+  pub taken : List ℕ
+  pub takes : Takes result bytes taken left
+  pub wrote : List ℕ
+  pub written : output ≡ Some (before ++ wrote)
+  pub after : Held
+  pub told : host ≡ Some after
+  pub served : Served result taken wrote (setting_of headers) held.files after.files faults_before faults_after

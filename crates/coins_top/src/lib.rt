@@ -1,14 +1,14 @@
 //! The top call: all that the program does, over an outside that is handed in.
 #![tactic(auto)]
 
-mod command;
+mod answering;
+mod ending;
+mod file_fold;
 mod folding;
-mod input;
+mod pending;
 mod program;
-mod reply;
+mod serving;
+mod stop;
 
 pub use base_types::{Limits, Salt, Status, Words};
 pub use program::run;
-
-#[cfg(test)]
-mod tests;

@@ -1,62 +1,27 @@
 //! The whole program over an outside that is handed in.
 
-ghost use Rattle.std.specs.Prelude.{◌≡◌, ◌≢◌, ◌<◌, ◌≤◌, ◌↔◌, ◌⊎◌, [], ℕ, List, length, Some, IfSome};
+ghost use Rattle.std.specs.Prelude.{◌≡◌, ◌≢◌, ◌<◌, ◌≤◌, ◌↔◌, [], ℕ, List, length, vec_len, Some, IfOk, IfSome};
 ghost use Rattle.std.specs.Io.KnownBytes.{IsAtEnd};
 ghost use Rattle.io_traits.specs.Causes.{Rose};
-ghost use Rattle.coins_top.specs.Command.{file_of};
-ghost use Rattle.coins_top.specs.Reply.{IsReplyTo};
-ghost use Rattle.coins_top.specs.Run.{IsOfRun, IsSilent, IsAnswered, IsAnswering, WritesPart, WritesWhole};
+ghost use Rattle.io_traits.specs.Host.{Held};
+ghost use Rattle.coins_top.specs.Run.{IsOfRun, IsOfInput, AnswersInput, status_of_end};
 
-use crate::command::{file_to_fold, line};
-use crate::folding::fold;
-use crate::input::fill;
-use crate::reply::{Reply, reply_line};
+use crate::answering::{answer, answer_lines};
+use crate::pending::PendingLine;
+use crate::stop::Stop;
 use base_types::{Limits, Salt, Status, Words};
 use io_traits::{Host, Sink, Source};
-use std::alloc::Global;
+use std::alloc::{AllocError, Global};
 
-/// The greatest number of bytes of an input.
-const MAX_INPUT: usize = 4096;
+/// The greatest number of bytes of commands.
+const MOST: usize = 16_777_216;
 
-/// Room for an input and one more byte.
-const ROOM: usize = 4097;
+/// How many bytes are read at once.
+const PIECE: usize = 65_536;
 
-fn reply_to<H: Host>(host: &mut H, line: &[u8]) -> Reply
-    ensures later { H.faults host.old ≤ H.faults host.new }
-    ensures reply { IsReplyTo (H.held host.old) (file_of line.now) (Rose (H.faults host.old) (H.faults host.new)) result }
-{
-    match file_to_fold(line) {
-        Some(name) => fold(host, name),
-        None => Reply::UnknownCommand,
-    }
-}
-
-// Answers an input.
-fn answer<H: Host, O: Sink>(alloc: Global, host: &mut H, input: &[u8], out: &mut O) -> Status
-    ensures statuses { IsAnswering result }
-    ensures later { H.faults host.old ≤ H.faults host.new }
-    ensures out_fault { result ≡ Status.OutFault → Rose (O.faults out.old) (O.faults out.new) }
-    ensures silent { IsSilent result → O.written out.new ≡ O.written out.old }
-    ensures text { (O.written out.new ≡ O.written out.old) ⊎ WritesPart (H.held host.old) input.now (Rose (H.faults host.old) (H.faults host.new)) (O.written out.old) (O.written out.new) }
-    ensures done { result ≡ Status.Done → WritesWhole (H.held host.old) input.now (Rose (H.faults host.old) (H.faults host.new)) (O.written out.old) (O.written out.new) }
-{
-    let line = line(input);
-    if line.is_empty() {
-        return Status::Done;
-    }
-    let reply = reply_to(host, line);
-    let Ok(text) = reply_line(alloc, &reply) else {
-        return Status::NoMemory;
-    };
-    match out.write(&text) {
-        Ok(()) => Status::Done,
-        Err(_) => Status::OutFault,
-    }
-}
-
-/// Takes the input to its end, answers it, and says how the run ended. The input has at most 4,096 bytes, one line
-/// `fold FILE`; the words of the command line are none. A status other than `Done` ends the run at once. No answer
-/// depends on the salt.
+/// Answers the lines of the input as they come, and says how the run ended: `fold FILE` and `generate NUMBER COUNT FILE`
+/// are done, and all other commands are unknown. The words of the command line are none. A status other than `Done` ends
+/// the run at once. No answer depends on the salt.
 pub fn run<H: Host, I: Source, O: Sink>(
     alloc: Global,
     words: &Words,
@@ -64,36 +29,89 @@ pub fn run<H: Host, I: Source, O: Sink>(
     input: &mut I,
     out: &mut O,
     _salt: &Salt,
-    _limits: &Limits,
+    limits: &Limits,
 ) -> Status
     // Each status has its cause; want of memory alone is free.
     ensures statuses { IsOfRun result }
     ensures usage { (result ≡ Status.Usage) ↔ (words.now ≢ []) }
     ensures in_fault { result ≡ Status.InFault → Rose (I.faults input.old) (I.faults input.new) }
     ensures out_fault { result ≡ Status.OutFault → Rose (O.faults out.old) (O.faults out.new) }
-    ensures too_long { result ≡ Status.TooLong → IfSome (I.left input.old) (λ bytes. 4096 < length bytes) }
-    ensures taken { IsAnswered result → IfSome (I.left input.old) (λ bytes. length bytes ≤ 4096) }
-    ensures ended { IsAnswered result → IsAtEnd (I.left input.new) }
+    ensures too_long { result ≡ Status.TooLong → IfSome (I.left input.old) (λ bytes. 16777216 < length bytes) }
+    ensures ended { result ≡ Status.Done → IsAtEnd (I.left input.new) }
+    ensures taken { result ≡ Status.Done → IfSome (I.left input.old) (λ bytes. length bytes ≤ 16777216) }
 
     // The counts of faults don't fall.
-    ensures later { (I.faults input.old ≤ I.faults input.new) × (H.faults host.old ≤ H.faults host.new) }
+    ensures later { (I.faults input.old ≤ I.faults input.new) × (H.faults host.old ≤ H.faults host.new) × (O.faults out.old ≤ O.faults out.new) }
 
-    // With told contents, what is written is a first part of an answer to the input, and with Done all of it.
-    ensures silent { IsSilent result → O.written out.new ≡ O.written out.old }
-    ensures text { (bytes : List ℕ) → I.left input.old ≡ Some bytes
-        → (O.written out.new ≡ O.written out.old) ⊎ WritesPart (H.held host.old) bytes (Rose (H.faults host.old) (H.faults host.new)) (O.written out.old) (O.written out.new) }
-    ensures done { (bytes : List ℕ) → result ≡ Status.Done → I.left input.old ≡ Some bytes
-        → WritesWhole (H.held host.old) bytes (Rose (H.faults host.old) (H.faults host.new)) (O.written out.old) (O.written out.new) }
+    // With other words nothing is taken, done or written.
+    ensures idle { result ≡ Status.Usage → (input.new ≡ input.old) × (host.new ≡ host.old) × (out.new ≡ out.old) }
+
+    // With told contents, the lines that were taken are served in order.
+    ensures served { (bytes before : List ℕ) (held : Held) → result ≢ Status.Usage → I.left input.old ≡ Some bytes → H.held host.old ≡ Some held → O.written out.old ≡ Some before
+        → AnswersInput result limits.now.headers bytes before held (I.left input.new) (O.written out.new) (H.held host.new) (H.faults host.old) (H.faults host.new) }
 {
     if !words.is_empty() {
         return Status::Usage;
     }
-    let mut room = [0; ROOM];
-    let Ok(count) = fill(input, &mut room) else {
-        return Status::InFault;
+    answer_input(alloc, host, input, out, limits)
+}
+
+// Reads the input to its end, and answers its lines.
+fn answer_input<H: Host, I: Source, O: Sink>(
+    alloc: Global,
+    host: &mut H,
+    input: &mut I,
+    out: &mut O,
+    limits: &Limits,
+) -> Status
+    ensures statuses { IsOfInput result }
+    ensures in_fault { result ≡ Status.InFault → Rose (I.faults input.old) (I.faults input.new) }
+    ensures out_fault { result ≡ Status.OutFault → Rose (O.faults out.old) (O.faults out.new) }
+    ensures too_long { result ≡ Status.TooLong → IfSome (I.left input.old) (λ bytes. 16777216 < length bytes) }
+    ensures ended { result ≡ Status.Done → IsAtEnd (I.left input.new) }
+    ensures taken { result ≡ Status.Done → IfSome (I.left input.old) (λ bytes. length bytes ≤ 16777216) }
+    ensures later { (I.faults input.old ≤ I.faults input.new) × (H.faults host.old ≤ H.faults host.new) × (O.faults out.old ≤ O.faults out.new) }
+    ensures served { (bytes before : List ℕ) (held : Held) → I.left input.old ≡ Some bytes → H.held host.old ≡ Some held → O.written out.old ≡ Some before
+        → AnswersInput result limits.now.headers bytes before held (I.left input.new) (O.written out.new) (H.held host.new) (H.faults host.old) (H.faults host.new) }
+{
+    let Ok(mut room) = room_for_piece(alloc) else {
+        return Status::NoMemory;
     };
-    if count > MAX_INPUT {
-        return Status::TooLong;
+    let mut line = PendingLine::new(alloc);
+    let mut taken = 0;
+    'reading: loop {
+        // One byte past the most shows that there are too many.
+        let piece = &mut room[..(MOST - taken).clamp(1, PIECE)];
+        let Ok(count) = input.read(piece) else {
+            return Status::InFault;
+        };
+        if count == 0 {
+            return status_of(answer(alloc, host, out, limits, line.text()));
+        }
+        if taken == MOST {
+            return Status::TooLong;
+        }
+        taken += count;
+        let bytes = &piece[..count];
+        if let Err(stop) = answer_lines(alloc, host, out, limits, &mut line, bytes) {
+            return status_of(Err(stop));
+        }
     }
-    answer(alloc, host, &room[..count], out)
+}
+
+fn room_for_piece(alloc: Global) -> Result<Vec<u8>, AllocError>
+    ensures { IfOk result (λ room. vec_len room ≡ 65536) }
+{
+    vec![in alloc; 0; PIECE]
+}
+
+// The status of a run that ended so.
+fn status_of(ended: Result<(), Stop>) -> Status
+    ensures { result ≡ status_of_end ended }
+{
+    match ended {
+        Ok(()) => Status::Done,
+        Err(Stop::NoMemory) => Status::NoMemory,
+        Err(Stop::OutFault) => Status::OutFault,
+    }
 }

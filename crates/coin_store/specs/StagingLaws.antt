@@ -1,15 +1,16 @@
--- A store that no batch was added to knows the same ones.
-use Rattle.std.specs.Prelude.{◌≡◌, ℕ, List, Option}
+-- A store that no batch was added to knows the same ones, and a row fits where its bytes were prepared.
+use Rattle.std.specs.Prelude.{◌≡◌, ℕ, ◌+◌, ◌≤◌, List, length, Option, vec_len, vec_capacity}
 use Rattle.std.specs.FinMap.{get, empty}
-use Rattle.std.proofs.Common.{sym, ap, subst, ◌∙◌}
+use Rattle.std.proofs.Common.{sym, ap, subst, ◌∙◌, arith}
+use Rattle.std.proofs.lemmas.List.{length-drop}
 use Rattle.disk_model.specs.Disk.{Image}
 use Rattle.base_types.specs.declared.hash.OutPoint.{OutPoint}
 use Rattle.batch_log.specs.OpenLog.{OpenLog, Stands, Unchanged}
 use Rattle.batch_log.specs.Records.{EndsClosed}
 use Rattle.coin_store.specs.declared.store.CoinStore.{CoinStore}
-use Rattle.coin_store.specs.Batches.{Batch}
+use Rattle.coin_store.specs.Batches.{Row, Batch, row_text, rows_text}
 use Rattle.coin_store.specs.Places.{places_after}
-use Rattle.coin_store.specs.Staging.{SameRows}
+use Rattle.coin_store.specs.Staging.{IsStaged, SameRows}
 use Rattle.coin_store.specs.Store.{Knows, Holds, marks, texts}
 
 pub stands_unchanged : (contents : Option Image) (left : Image → Type 0) (old new : OpenLog) (payloads : List (List ℕ)) → Unchanged old new → Stands contents left old payloads → Stands contents left new payloads
@@ -40,3 +41,11 @@ holds_same contents left old new batches same h = record {
   knows = knows_same old new batches same h.knows;
   stands = subst (λ (m : List ℕ). Stands contents left new.log (texts m batches)) (sym same.mask) (stands_unchanged contents left old.log new.log (texts old.mask batches) same.log h.stands);
 }
+
+-- one more row can be staged where it fits behind a marker `At` and the rows before it
+pub row_fits : (store : CoinStore) (keys : List OutPoint) (payload payloads total : ℕ) (rows : List Row) (row : Row) → IsStaged store keys payload payloads total rows
+    → 33 + length (rows_text store.mask rows) + length (row_text store.mask row) ≤ payload → vec_len store.staged + length (row_text store.mask row) ≤ vec_capacity store.staged
+row_fits store keys payload payloads total rows row s fits =
+    let front = s.front in
+    let bytes = s.bytes in
+    omega (arith, front, bytes, fits, store.staged.ok.0, ap length s.text, length-drop 65 store.staged.items)

@@ -162,7 +162,7 @@ impl CoinStore {
     /// Makes room for payloads whose rows name only these outpoints: at most one more than there are outpoints, each of at
     /// most `payload` bytes, that let the file grow by at most `total` bytes together, 5 for each and those of the payloads.
     /// Staging and applying them takes no memory, and none is refused as too much. `Full` where the file would grow beyond
-    /// its limit. Rows that were staged before are dropped.
+    /// its limit. From Ok on no row is staged.
     pub fn prepare(&mut self, keys: &[OutPoint], payload: u32, total: u64) -> Result<(), StoreFault>
         ensures ok { OnOk result (IsStaged self.new keys.now payload (1 + length keys.now) total []) }
         ensures same { SameRows self.old self.new }
@@ -185,6 +185,7 @@ impl CoinStore {
         ensures staged { (keys : List OutPoint) (payload payloads total : ℕ) (rows : List Row) → IsStaged self.old keys payload payloads total rows → Contains keys key.now
             → RowFits (record { key = key.now; coin = option_copied coin.entry }) → IsStaged self.new keys payload payloads total (rows ++ record { key = key.now; coin = option_copied coin.entry } ∷ []) }
         ensures same { self.new ≡ record self.old { staged = self.new.staged } }
+        ensures rows { SameRows self.old self.new }
         ensures text { self.new.staged.items ≡ self.old.staged.items ++ row_text self.old.mask (record { key = key.now; coin = option_copied coin.entry }) }
         ensures capacity { vec_capacity self.old.staged ≤ vec_capacity self.new.staged }
     {
@@ -217,6 +218,7 @@ impl CoinStore {
         ensures read { D.bytes_read disk.new ≡ D.bytes_read disk.old }
         ensures same { SameStore self.old self.new }
         ensures err { OnErr result (SameRows self.old self.new) }
+        ensures knows { (batches : List Batch) → Knows self.old batches → OnErr result (Knows self.new batches) }
         ensures cause { IfErr result (λ e. (e ≡ Failed) × Rose (D.faults disk.old) (D.faults disk.new)) }
         ensures faults { D.faults disk.old ≤ D.faults disk.new }
     {

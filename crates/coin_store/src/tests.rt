@@ -111,6 +111,101 @@ fn a_covered_coin_is_read_with_its_key(rt: HostRuntime) -> Result<(), Fail> {
     Ok(())
 }
 
+/// A file with one byte of its bytes changed.
+fn changed(alloc: Global, bytes: &[u8], at: usize, byte: u8) -> Result<Vec<u8>, Fail> {
+    let mut changed = Vec::from_slice(alloc, bytes)?;
+    if at < changed.len() {
+        changed[at] = byte;
+    }
+    Ok(changed)
+}
+
+#[test]
+fn a_broken_form_is_damage_at_its_gate(rt: HostRuntime) -> Result<(), Fail> {
+    let first = one_row(rt.alloc(), &[0x03, 0x32, 0x07, 0x51])?;
+    // The raw form of a script that pays to a key's hash, which has a short form.
+    let mut raw = Vec::from_slice(rt.alloc(), &[0x03, 0x32, 0x1f, 0x76, 0xa9, 0x14])?;
+    raw.extend_from_slice(&[0x33; 20])?;
+    raw.extend_from_slice(&[0x88, 0xac])?;
+    let second_spelling = one_row(rt.alloc(), &raw)?;
+    let image = image_of(rt.alloc(), &[&first, &first])?;
+    let bytes = image.get(3).unwrap_or(&[]);
+    let whole = bytes.len();
+    let damaged = |at| Err(StoreFault::Damaged { file: 3, at });
+    // Byte 5 is the first payload's marker, 38 its row's letter, 72 the coin's length, 73 its first byte; the second
+    // payload's gate is at 77.
+    let rows: [(usize, u8, Result<Option<u64>, StoreFault>); 9] = [
+        (whole, 0, Ok(Some(5_000_000_000))),
+        (0, 0, Ok(None)),
+        (77, 0, Ok(Some(5_000_000_000))),
+        (5, 0x43, damaged(0)),
+        (82, 0x43, damaged(77)),
+        (38, 0x42, damaged(0)),
+        (72, 3, damaged(0)),
+        (72, 5, damaged(0)),
+        (149, 3, damaged(77)),
+    ];
+    for (at, byte, want) in rows {
+        let mut image = Image::new(rt.alloc());
+        image.put(3, &changed(rt.alloc(), bytes, at, byte)?)?;
+        let mut disk = MemDisk::from_image(rt.alloc(), &image)?;
+        let found = match open(rt.alloc(), &mut disk, NO_KEY) {
+            Ok(store) => value(&store, &mut disk),
+            Err(fault) => Err(fault),
+        };
+        assert_eq!(rt; found, want);
+    }
+    let Some((_, cut_short)) = bytes.split_last() else {
+        return Ok(());
+    };
+    let mut cut = Image::new(rt.alloc());
+    cut.put(3, cut_short)?;
+    let mut disk = MemDisk::from_image(rt.alloc(), &cut)?;
+    assert!(rt;
+        open(rt.alloc(), &mut disk, NO_KEY).err() == Some(StoreFault::Damaged { file: 3, at: 77 })
+    );
+    let short = image_of(rt.alloc(), &[&second_spelling])?;
+    let mut disk = MemDisk::from_image(rt.alloc(), &short)?;
+    assert!(rt;
+        open(rt.alloc(), &mut disk, NO_KEY).err() == Some(StoreFault::Damaged { file: 3, at: 0 })
+    );
+    Ok(())
+}
+
+#[test]
+fn a_view_reads_the_disk_that_it_is_given(rt: HostRuntime) -> Result<(), Fail> {
+    let payload = one_row(rt.alloc(), &[0x03, 0x32, 0x07, 0x51])?;
+    let image = image_of(rt.alloc(), &[&payload])?;
+    let mut disk = MemDisk::from_image(rt.alloc(), &image)?;
+    let store = open(rt.alloc(), &mut disk, NO_KEY)?;
+    let bytes = image.get(3).unwrap_or(&[]);
+    let rows: [(usize, u8, Result<Option<u64>, StoreFault>); 3] = [
+        (74, 0x31, Ok(Some(500_000_000))),
+        (74, 0x80, Err(StoreFault::Damaged { file: 3, at: 0 })),
+        (5, 0x43, Ok(Some(5_000_000_000))),
+    ];
+    for (at, byte, want) in rows {
+        let mut copy = Image::new(rt.alloc());
+        copy.put(3, &changed(rt.alloc(), bytes, at, byte)?)?;
+        let mut other = MemDisk::from_image(rt.alloc(), &copy)?;
+        assert_eq!(rt; value(&store, &mut other), want);
+    }
+    let Some((_, cut_short)) = bytes.split_last() else {
+        return Ok(());
+    };
+    let Some((_, cut_short)) = cut_short.split_last() else {
+        return Ok(());
+    };
+    let mut short = Image::new(rt.alloc());
+    short.put(3, cut_short)?;
+    let mut other = MemDisk::from_image(rt.alloc(), &short)?;
+    assert_eq!(rt;
+        value(&store, &mut other),
+        Err(StoreFault::Damaged { file: 3, at: 0 })
+    );
+    Ok(())
+}
+
 #[test]
 fn a_failed_read_ends_the_opening(rt: HostRuntime) -> Result<(), Fail> {
     let payload = one_row(rt.alloc(), &[0x03, 0x32, 0x07, 0x51])?;

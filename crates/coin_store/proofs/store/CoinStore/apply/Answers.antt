@@ -10,6 +10,7 @@ use Rattle.coin_store.specs.Batches.{marker_text, batch_text}
 use Rattle.coin_store.specs.Places.{places_after_rows, places_after}
 use Rattle.coin_store.specs.Staged.{AreRows, Agrees}
 use Rattle.coin_store.specs.Staging.{staged_text}
+use Rattle.coin_store.specs.StagingLaws.{knows_same}
 use Rattle.coin_store.specs.Store.{texts}
 use Rattle.coin_store.proofs.Payloads.{payload_is, staged_is, are_rows, applied, restaged}
 use Rattle.coin_store.proofs.store.CoinStore.apply.Goals as goal
@@ -19,6 +20,9 @@ returns-in-Err-clause-any_moment g c = λ batches keys payload payloads total ro
     let is = payload_is c.deref.result.now _ _ c.put_marker-from.result c.deref.ensures.value c.put_marker-from.ensures.text ∙ staged_is c.args.self.now c.args.marker.now keys payload payloads total rows staged in
     subst (λ (p : List ℕ). Leaves g.D.Disk.time g.D.Disk.left_since (At c.args.self.now.log.file (WithOrWithout (texts c.args.self.now.mask batches) p)) c.args.disk.now c.append.new.disk) is
     (c.append.ensures.any_moment (texts c.args.self.now.mask batches) holds.stands)
+
+pub returns-in-Err-clause-knows : goal.returns-in-Err-clause-knows
+returns-in-Err-clause-knows g c = λ batches knows. knows_same c.args.self.now _ batches (record { log = c.in-Err.ensures.err; mask = refl; start = refl; markers = refl; places = λ q. refl }) knows
 
 pub returns-clause-any_moment : goal.returns-clause-any_moment
 returns-clause-any_moment g c = λ batches keys payload payloads total rows holds staged.

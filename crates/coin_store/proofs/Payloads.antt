@@ -1,5 +1,5 @@
 -- One staged row more, and one payload more.
-use Rattle.std.specs.Prelude.{◌≡◌, ℕ, ◌+◌, ◌-◌, ◌<◌, ◌≤◌, All, Contains, List, [], ◌∷◌, ◌++◌, length, take, drop, get_or, Option, vec_len, vec_capacity, refl}
+use Rattle.std.specs.Prelude.{◌≡◌, ℕ, ◌+◌, ◌-◌, ◌≤◌, All, Contains, List, [], ◌∷◌, ◌++◌, length, take, drop, get_or, Option, vec_len, vec_capacity, refl}
 use Rattle.std.specs.Global.{Vec}
 use Rattle.std.specs.FinMap.{get, empty}
 use Rattle.std.specs.List.{AllByRecursion}
@@ -8,7 +8,7 @@ use Rattle.std.proofs.lemmas.List.{length-append, length-drop, drop-append-le, t
 use Rattle.std.proofs.lemmas.List.Elements.{All-contains}
 use Rattle.disk_model.specs.Disk.{Image}
 use Rattle.base_types.specs.declared.hash.OutPoint.{OutPoint}
-use Rattle.batch_log.specs.OpenLog.{OpenLog, Stands, HasRoom, Unchanged}
+use Rattle.batch_log.specs.OpenLog.{OpenLog, Stands, HasRoom}
 use Rattle.batch_log.specs.Records.{body, records}
 use Rattle.coin_store.specs.declared.marker.Marker.{Marker}
 use Rattle.coin_store.specs.declared.store.CoinStore.{CoinStore}
@@ -16,7 +16,7 @@ use Rattle.coin_store.specs.declared.store.Marked.{Marked}
 use Rattle.coin_store.specs.Batches.{Row, Batch, row_text, rows_text, marker_text, batch_text, RowFits, MarkerFits, BatchFits}
 use Rattle.coin_store.specs.Places.{CoinPlaces, places_after_rows, places_after_batch, places_after}
 use Rattle.coin_store.specs.Staged.{HasEntry, KeepsEntries, Agrees, AreRows}
-use Rattle.coin_store.specs.Staging.{IsStaged, IsReady, staged_text}
+use Rattle.coin_store.specs.Staging.{IsStaged, staged_text}
 use Rattle.coin_store.specs.Store.{Knows, Holds, marks, texts}
 use Rattle.coin_store.proofs.BatchSteps.{text_push}
 

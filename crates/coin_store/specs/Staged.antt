@@ -1,10 +1,10 @@
 -- The rows of a payload that is to come, and the room in the index for the places of their coins.
-use Rattle.std.specs.Prelude.{◌≡◌, ℕ, ◌+◌, ◌<◌, IsSome, List, drop, length}
+use Rattle.std.specs.Prelude.{◌≡◌, ℕ, IsSome, List}
 use Rattle.std.specs.FinMap.{get}
 use Rattle.std.specs.List.{AllByRecursion}
 use Rattle.base_types.specs.declared.hash.OutPoint.{OutPoint}
 use Rattle.coin_store.specs.Batches.{Row, rows_text, RowFits}
-use Rattle.coin_store.specs.Places.{CoinPlaces, places_after_rows, live}
+use Rattle.coin_store.specs.Places.{CoinPlaces, live}
 
 -- there is an entry for an outpoint, with a place or with room for one
 abbrev pub HasEntry : CoinPlaces → OutPoint → Type 0

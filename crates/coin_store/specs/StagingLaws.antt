@@ -1,5 +1,5 @@
 -- A store that no batch was added to knows the same ones, and a row fits where its bytes were prepared.
-use Rattle.std.specs.Prelude.{◌≡◌, ℕ, ◌+◌, ◌≤◌, List, length, Option, vec_len, vec_capacity}
+use Rattle.std.specs.Prelude.{ℕ, ◌+◌, ◌≤◌, List, length, Option, vec_len, vec_capacity}
 use Rattle.std.specs.FinMap.{get, empty}
 use Rattle.std.proofs.Common.{sym, ap, subst, ◌∙◌, arith}
 use Rattle.std.proofs.lemmas.List.{length-drop}

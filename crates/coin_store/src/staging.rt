@@ -3,6 +3,7 @@
 ghost use Rattle.std.specs.Prelude.{◌≡◌, ℕ, ◌+◌, ◌^◌, ◌<◌, ◌≤◌, List, [], ◌∷◌, ◌++◌, length, drop, vec_len, vec_capacity, OnOk};
 ghost use Rattle.std.specs.Option.{option_copied};
 ghost use Rattle.batch_log.specs.declared.places.Place.{Place};
+ghost use Rattle.coin_codec.specs.KeyText.{KeyFits};
 ghost use Rattle.coin_store.specs.Batches.{covered, marker_text, row_text, value_text, ValueFits, MarkerFits};
 
 use crate::batch::{AT, BETWEEN};
@@ -78,6 +79,13 @@ fn close_row(bytes: &mut [u8], start: usize, len: usize, mask: &Mask)
     bytes[start..].rotate_left(len);
 }
 
+// A key has a hash of 32 bytes and a number of 32 bits, of which the language speaks where it is passed by value.
+fn is_in_range(key: OutPoint)
+    ensures { KeyFits key }
+{
+    let _key = key;
+}
+
 /// Adds a row. There is room for it.
 #[tactic(auto, unfolding(crate::specs::Batches::row_text, crate::specs::Batches::head_text, crate::specs::Batches::value_text))]
 pub fn put_row(out: &mut Vec<u8>, key: &OutPoint, coin: Option<&Coin>, mask: &Mask)
@@ -85,7 +93,9 @@ pub fn put_row(out: &mut Vec<u8>, key: &OutPoint, coin: Option<&Coin>, mask: &Ma
     requires room { vec_len out.old + length (row_text mask.now (record { key = key.now; coin = option_copied coin })) ≤ vec_capacity out.old }
     ensures text { out.new.items ≡ out.old.items ++ row_text mask.now (record { key = key.now; coin = option_copied coin.entry }) }
     ensures capacity { vec_capacity out.old ≤ vec_capacity out.new }
+    ensures fits { KeyFits key.now }
 {
+    is_in_range(*key);
     write_key(out, key).unwrap();
     let start = out.len();
     put_value(out, coin);

@@ -183,7 +183,7 @@ impl CoinStore {
         requires coin { ValueFits (option_copied coin) }
         requires room { vec_len self.old.staged + length (row_text self.old.mask (record { key = key.now; coin = option_copied coin })) ≤ vec_capacity self.old.staged }
         ensures staged { (keys : List OutPoint) (payload payloads total : ℕ) (rows : List Row) → IsStaged self.old keys payload payloads total rows → Contains keys key.now
-            → RowFits (record { key = key.now; coin = option_copied coin.entry }) → IsStaged self.new keys payload payloads total (rows ++ record { key = key.now; coin = option_copied coin.entry } ∷ []) }
+            → IsStaged self.new keys payload payloads total (rows ++ record { key = key.now; coin = option_copied coin.entry } ∷ []) }
         ensures same { self.new ≡ record self.old { staged = self.new.staged } }
         ensures rows { SameRows self.old self.new }
         ensures text { self.new.staged.items ≡ self.old.staged.items ++ row_text self.old.mask (record { key = key.now; coin = option_copied coin.entry }) }
@@ -196,12 +196,13 @@ impl CoinStore {
     /// and no row is staged. This takes no memory: the only error is `DiskFailed`, and the rows and the marker are then as
     /// before.
     pub fn apply<D: Disk>(&mut self, disk: &mut D, marker: &Marker) -> Result<(), StoreFault>
-        requires ready { IsReady self.old marker.now }
+        requires { IsReady self.old marker.now }
         ensures ok { (batches : List Batch) (keys : List OutPoint) (payload payloads total : ℕ) (rows : List Row)
             → Holds (D.contents disk.old) (D.left_since disk.old (D.time disk.old)) self.old batches
+            → IsStaged self.old keys payload payloads total rows → OnOk result (Holds (D.contents disk.new) (D.left_since disk.new (D.time disk.new)) self.new (batches ++ record { marker = marker.now; rows = rows } ∷ [])) }
+        ensures staged { (keys : List OutPoint) (payload payloads total : ℕ) (rows : List Row)
             → IsStaged self.old keys payload (1 + payloads) (5 + length (batch_text self.old.mask (record { marker = marker.now; rows = rows })) + total) rows
-            → OnOk result (Holds (D.contents disk.new) (D.left_since disk.new (D.time disk.new)) self.new (batches ++ record { marker = marker.now; rows = rows } ∷ [])
-            × IsStaged self.new keys payload payloads total []) }
+            → OnOk result (IsStaged self.new keys payload payloads total []) }
         ensures any_moment { (batches : List Batch) (keys : List OutPoint) (payload payloads total : ℕ) (rows : List Row)
             → Holds (D.contents disk.old) (D.left_since disk.old (D.time disk.old)) self.old batches → IsStaged self.old keys payload payloads total rows
             → Leaves D.time D.left_since (At self.old.log.file (WithOrWithout (texts self.old.mask batches) (batch_text self.old.mask (record { marker = marker.now; rows = rows })))) disk.old disk.new }

@@ -1,4 +1,4 @@
-use Rattle.std.specs.Prelude.{◌≡◌, ◌+◌, ◌<◌, ℕ, List, length, drop}
+use Rattle.std.specs.Prelude.{◌≡◌, ◌<◌, ℕ, List, length, drop}
 use Rattle.std.proofs.Common.{arith, sym, subst}
 use Rattle.std.proofs.lemmas.List.{length-drop}
 use Rattle.std.specs.FinMap.{insert}

@@ -1,5 +1,3 @@
-use Rattle.coin_store.specs.declared.index.IndexKey.{IndexKey}
-use Rattle.coin_store.specs.declared.places.CoinPlace.{CoinPlace}
 use Rattle.std.proofs.Common.{rules}
 use Rattle.std.proofs.lemmas.Map.Made.{filter_same_pairs}
 use Rattle.coin_store.proofs.Vacant.{has_bytes, vacant_dropped}

@@ -1,15 +1,13 @@
-use Rattle.std.specs.Prelude.{◌≡◌, ℕ, ◌+◌, ◌-◌, ◌^◌, ◌<◌, List, [], ◌∷◌, ◌++◌, length, drop, option_map, refl}
+use Rattle.std.specs.Prelude.{◌≡◌, ℕ, ◌+◌, ◌-◌, List, [], ◌∷◌, ◌++◌, length, drop, option_map, refl}
 use Rattle.std.specs.FinMap.{empty}
 use Rattle.std.proofs.Common.{sym, ap, subst, ◌∙◌, arith}
 use Rattle.std.proofs.lemmas.List.{length-append}
-use Rattle.disk_model.specs.Disk.{At, Leaves, Rose, changed_at, written}
-use Rattle.base_types.specs.declared.fault.StoreFault.{StoreFault}
+use Rattle.disk_model.specs.Disk.{At, Leaves, changed_at, written}
 use Rattle.batch_log.specs.OpenLog.{OpenLog, HasRoom, AppendCause}
 use Rattle.batch_log.specs.Records.{body, WithOrWithout}
-use Rattle.coin_store.specs.Batches.{marker_text, batch_text}
+use Rattle.coin_store.specs.Batches.{marker_text}
 use Rattle.coin_store.specs.Places.{places_after_rows, places_after}
 use Rattle.coin_store.specs.Staged.{AreRows, Agrees}
-use Rattle.coin_store.specs.Staging.{staged_text}
 use Rattle.coin_store.specs.StagingLaws.{knows_same}
 use Rattle.coin_store.specs.Store.{texts}
 use Rattle.coin_store.proofs.Payloads.{payload_is, staged_is, are_rows, applied, restaged}
@@ -32,7 +30,7 @@ returns-clause-any_moment g c = λ batches keys payload payloads total rows hold
 
 pub returns-in-Err-clause-cause : goal.returns-in-Err-clause-cause
 returns-in-Err-clause-cause g c =
-    let r = c.requires.ready in
+    let r = c.requires in
     let text = payload_is c.deref.result.now _ _ c.put_marker-from.result c.deref.ensures.value c.put_marker-from.ensures.text in
     let is = ap length (text ∙ staged_is c.args.self.now c.args.marker.now r.keys r.payload (1 + r.payloads) _ r.rows r.staged) in
     let short = r.staged.short in
@@ -51,7 +49,7 @@ returns-clause-written g c =
 pub keep_staged-requires-clause-listed : goal.keep_staged-requires-clause-listed
 keep_staged-requires-clause-listed g c =
     let s = c.args.self.now in
-    let r = c.requires.ready in
+    let r = c.requires in
     let text = payload_is c.deref.result.now _ _ c.put_marker-from.result c.deref.ensures.value c.put_marker-from.ensures.text in
     let is = ap length (text ∙ staged_is s c.args.marker.now r.keys r.payload (1 + r.payloads) _ r.rows r.staged) in
     let short = r.staged.short in
@@ -67,26 +65,30 @@ keep_staged-requires-clause-listed g c =
 pub keep_staged-requires-clause-rows : goal.keep_staged-requires-clause-rows
 keep_staged-requires-clause-rows g c =
     let s = c.args.self.now in
-    let r = c.requires.ready in
+    let r = c.requires in
     (r.rows, subst (λ (b : List ℕ). AreRows s.mask s.index b r.rows) (sym c.put_marker-from.ensures.rows) (are_rows s r.keys r.payload (1 + r.payloads) _ r.rows r.staged))
 
 pub returns-clause-ok : goal.returns-clause-ok
 returns-clause-ok g c = λ batches keys payload payloads total rows holds staged.
     let s = c.args.self.now in
     let from = c.put_marker-from.result in
-    let text = payload_is c.deref.result.now _ _ from c.deref.ensures.value c.put_marker-from.ensures.text in
-    let is = text ∙ staged_is s c.args.marker.now keys payload (1 + payloads) _ rows staged in
+    let is = payload_is c.deref.result.now _ _ from c.deref.ensures.value c.put_marker-from.ensures.text ∙ staged_is s c.args.marker.now keys payload payloads total rows staged in
     let listed = c.in_default.ensures.listed in
-    let rows_are = subst (λ (b : List ℕ). AreRows s.mask s.index b rows) (sym c.put_marker-from.ensures.rows) (are_rows s keys payload (1 + payloads) _ rows staged) in
+    let rows_are = subst (λ (b : List ℕ). AreRows s.mask s.index b rows) (sym c.put_marker-from.ensures.rows) (are_rows s keys payload payloads total rows staged) in
     let noted = c.keep_staged.ensures.rows s.log.places _ (places_after s.log.file s.mask 0 empty batches) rows listed rows_are holds.knows.places in
-    let filed = subst (λ (f : ℕ). Agrees c.keep_staged.new.self.index (places_after_rows f s.mask s.log.end (65 - from) (places_after s.log.file s.mask 0 empty batches) rows)) c.append.ensures.same.file noted in
+    let filed =
+    subst (λ (f : ℕ). Agrees c.keep_staged.new.self.index (places_after_rows f s.mask s.log.end (65 - from) (places_after s.log.file s.mask 0 empty batches) rows)) c.append.ensures.same.file noted in
     let offset : 65 - from ≡ length (marker_text c.args.marker.now) = omega (arith, c.put_marker-from.ensures.begins) in
     let agree = subst (λ (n : ℕ). Agrees c.keep_staged.new.self.index (places_after_rows s.log.file s.mask s.log.end n (places_after s.log.file s.mask 0 empty batches) rows)) offset filed in
+    applied (g.D.Disk.contents c.args.disk.now) (g.D.Disk.left_since c.args.disk.now (g.D.Disk.time c.args.disk.now)) s c.keep_staged.new.self c.append.new.self batches c.args.marker.now rows _ holds
+    (g.D.Disk.contents c.append.new.disk) (g.D.Disk.left_since c.append.new.disk (g.D.Disk.time c.append.new.disk)) (c.in_default.ensures.ok (texts s.mask batches) holds.stands) is c.put_marker-from.ensures.fits staged.fit
+    c.keep_staged.ensures.log c.append.ensures.same.file c.keep_staged.ensures.mask (c.keep_staged.ensures.marked s.log.places _ listed) agree
+
+pub returns-clause-staged : goal.returns-clause-staged
+returns-clause-staged g c = λ keys payload payloads total rows staged.
+    let s = c.args.self.now in
+    let is = payload_is c.deref.result.now _ _ c.put_marker-from.result c.deref.ensures.value c.put_marker-from.ensures.text ∙ staged_is s c.args.marker.now keys payload (1 + payloads) _ rows staged in
     let room = subst (λ (n : ℕ). HasRoom s.log (1 + payloads) (5 + n + total)) (sym (ap length is)) staged.room in
-    let left = subst (λ (l : OpenLog). HasRoom l payloads total) (sym c.keep_staged.ensures.log) (c.in_default.ensures.left payloads total room) in (
-      applied (g.D.Disk.contents c.args.disk.now) (g.D.Disk.left_since c.args.disk.now (g.D.Disk.time c.args.disk.now)) s c.keep_staged.new.self c.append.new.self batches c.args.marker.now rows _ holds
-          (g.D.Disk.contents c.append.new.disk) (g.D.Disk.left_since c.append.new.disk (g.D.Disk.time c.append.new.disk)) (c.in_default.ensures.ok (texts s.mask batches) holds.stands) is c.put_marker-from.ensures.fits staged.fit
-          c.keep_staged.ensures.log c.append.ensures.same.file c.keep_staged.ensures.mask (c.keep_staged.ensures.marked s.log.places _ listed) agree,
-      restaged s c.keep_staged.new.self keys payload payloads _ total rows staged c.keep_staged.ensures.entries c.keep_staged.ensures.none_left (c.keep_staged.ensures.capacity.1 ∙ c.put_marker-from.ensures.capacity) c.keep_staged.ensures.marks
-          c.keep_staged.ensures.capacity.0 left,
-    )
+    let left = subst (λ (l : OpenLog). HasRoom l payloads total) (sym c.keep_staged.ensures.log) (c.in_default.ensures.left payloads total room) in
+    restaged s c.keep_staged.new.self keys payload payloads _ total rows staged c.keep_staged.ensures.entries c.keep_staged.ensures.none_left (c.keep_staged.ensures.capacity.1 ∙ c.put_marker-from.ensures.capacity)
+    c.keep_staged.ensures.marks c.keep_staged.ensures.capacity.0 left

@@ -1,4 +1,4 @@
-use Rattle.std.specs.Prelude.{◌≡◌, ℕ, ◌-◌, List, length, take, drop, refl}
+use Rattle.std.specs.Prelude.{ℕ, List, drop, refl}
 use Rattle.std.proofs.Common.{sym, subst}
 use Rattle.coin_store.specs.Places.{places_after_rows}
 use Rattle.coin_store.specs.Staged.{AreRows, Agrees}

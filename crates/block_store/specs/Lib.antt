@@ -1,4 +1,5 @@
 pub mod Bodies
+pub mod Examples
 pub mod Headers
 pub mod Index
 pub mod IndexLaws

@@ -11,3 +11,6 @@ mod store;
 
 pub use header_list::{HeaderList, HeaderRecord};
 pub use store::BlockStore;
+
+#[cfg(test)]
+mod tests;

@@ -10,3 +10,6 @@ mod transactions;
 
 pub use fault::GenFault;
 pub use generation::generate;
+
+#[cfg(test)]
+mod tests;

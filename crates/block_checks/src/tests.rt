@@ -1,3 +1,6 @@
+mod contents;
+mod standing;
+
 use crate::body::check_at;
 use crate::fault::CheckFault;
 use crate::place::Standing;
@@ -5,7 +8,6 @@ use base_types::{BodyRefused, Hash32, OutPoint, Rules, Script, TxOut};
 use block_codec::{Block, Header, Inputs, Outputs, Stack, Tx, TxIn, Txs, txid};
 use merkle::{computed_commitment, root};
 use std::alloc::{AllocError, Global};
-use std::test::Fail;
 
 const ZERO: Hash32 = Hash32 { bytes: [0; 32] };
 
@@ -29,11 +31,18 @@ const C: OutPoint = OutPoint {
     index: 1,
 };
 
+const D: OutPoint = OutPoint {
+    txid: Hash32 { bytes: [1; 32] },
+    index: u32::MAX,
+};
+
 const MAX_MONEY: i64 = 2_100_000_000_000_000;
 
 // A block of a coinbase and copies of one other transaction.
 #[derive(Clone, Copy)]
 struct Shape<'a> {
+    // Whether it has no transaction at all.
+    empty: bool,
     height: u64,
     median: u32,
     rules: Rules,
@@ -48,10 +57,13 @@ struct Shape<'a> {
     sequence: u32,
     lock_time: u32,
     witness: &'a [&'a [u8]],
+    // The bytes of the script of the coinbase's first output.
+    filler: usize,
     root: Option<Hash32>,
 }
 
 const PLAIN: Shape<'static> = Shape {
+    empty: false,
     height: 1,
     median: 500_000_000,
     rules: Rules {
@@ -70,6 +82,7 @@ const PLAIN: Shape<'static> = Shape {
     sequence: 0,
     lock_time: 0,
     witness: &[],
+    filler: 0,
     root: None,
 };
 
@@ -120,14 +133,19 @@ fn coinbase_of(alloc: Global, shape: &Shape) -> Result<Tx, AllocError> {
             ..*shape
         },
     )?;
+    let filler = vec![in alloc; 0; shape.filler]?;
     coinbase.outputs.push(TxOut {
         value: 0,
-        script: Script::new(alloc),
+        script: Script::from_slice(alloc, &filler)?,
     })?;
     Ok(coinbase)
 }
 
 fn txs_of(alloc: Global, shape: &Shape, commitment: Option<Hash32>) -> Result<Txs, AllocError> {
+    let mut txs = Txs::new(alloc);
+    if shape.empty {
+        return Ok(txs);
+    }
     let mut coinbase = coinbase_of(alloc, shape)?;
     if let Some(hash) = commitment {
         let mut script = Vec::from_slice(alloc, &[0x6a, 0x24, 0xaa, 0x21, 0xa9, 0xed])?;
@@ -137,7 +155,6 @@ fn txs_of(alloc: Global, shape: &Shape, commitment: Option<Hash32>) -> Result<Tx
             script: Script::from_slice(alloc, &script)?,
         })?;
     }
-    let mut txs = Txs::new(alloc);
     txs.push(coinbase)?;
     for _ in 0..shape.copies {
         txs.push(tx_of(alloc, shape.prevs, &[], shape.witness, shape)?)?;
@@ -208,361 +225,3 @@ const LATE: Rules = Rules {
     csv: 2,
     segwit: 2,
 };
-
-const NONCE: [u8; 32] = [0; 32];
-
-// Refusals beside the nearest blocks that are accepted.
-#[test]
-fn parts_of_a_block(rt: HostRuntime) -> Result<(), Fail> {
-    let rows: [(Shape, Option<BodyRefused>); 6] = [
-        (PLAIN, None),
-        (
-            Shape {
-                root: Some(ZERO),
-                ..PLAIN
-            },
-            Some(BodyRefused::BadMerkle),
-        ),
-        (Shape { copies: 2, ..PLAIN }, None),
-        (Shape { copies: 3, ..PLAIN }, Some(BodyRefused::Mutated)),
-        (
-            Shape { first: A, ..PLAIN },
-            Some(BodyRefused::FirstNotCoinbase),
-        ),
-        (
-            Shape {
-                prevs: &[NOTHING],
-                script: &[0x51, 1],
-                ..PLAIN
-            },
-            Some(BodyRefused::SecondCoinbase),
-        ),
-    ];
-    assert_eq!(rt; wrong_rows(rt.alloc(), &rows)?, 0);
-    Ok(())
-}
-
-// Refusals beside the nearest blocks that are accepted.
-#[test]
-fn values_and_inputs(rt: HostRuntime) -> Result<(), Fail> {
-    let rows: [(Shape, Option<BodyRefused>); 14] = [
-        (
-            Shape {
-                prevs: &[],
-                ..PLAIN
-            },
-            Some(BodyRefused::NoInputs),
-        ),
-        (
-            Shape {
-                values: &[],
-                ..PLAIN
-            },
-            Some(BodyRefused::NoOutputs),
-        ),
-        (
-            Shape {
-                values: &[0, MAX_MONEY],
-                ..PLAIN
-            },
-            None,
-        ),
-        (
-            Shape {
-                values: &[-1],
-                ..PLAIN
-            },
-            Some(BodyRefused::BadValue),
-        ),
-        (
-            Shape {
-                values: &[MAX_MONEY + 1],
-                ..PLAIN
-            },
-            Some(BodyRefused::BadValue),
-        ),
-        (
-            Shape {
-                values: &[1, MAX_MONEY],
-                ..PLAIN
-            },
-            Some(BodyRefused::BadValue),
-        ),
-        (
-            Shape {
-                prevs: &[A, B],
-                ..PLAIN
-            },
-            None,
-        ),
-        (
-            Shape {
-                prevs: &[B, B],
-                ..PLAIN
-            },
-            Some(BodyRefused::DuplicateInput),
-        ),
-        (
-            Shape {
-                prevs: &[A, B, C],
-                ..PLAIN
-            },
-            None,
-        ),
-        (
-            Shape {
-                prevs: &[A, B, C, A],
-                ..PLAIN
-            },
-            Some(BodyRefused::DuplicateInput),
-        ),
-        (
-            Shape {
-                script: &[0x51],
-                ..PLAIN
-            },
-            Some(BodyRefused::CoinbaseScript),
-        ),
-        (
-            Shape {
-                script: &[0x51; 100],
-                ..PLAIN
-            },
-            None,
-        ),
-        (
-            Shape {
-                script: &[0x51; 101],
-                ..PLAIN
-            },
-            Some(BodyRefused::CoinbaseScript),
-        ),
-        (
-            Shape {
-                prevs: &[A, NOTHING],
-                ..PLAIN
-            },
-            Some(BodyRefused::NullInput),
-        ),
-    ];
-    assert_eq!(rt; wrong_rows(rt.alloc(), &rows)?, 0);
-    Ok(())
-}
-
-// Refusals beside the nearest blocks that are accepted.
-#[test]
-fn lock_times_and_heights(rt: HostRuntime) -> Result<(), Fail> {
-    let rows: [(Shape, Option<BodyRefused>); 9] = [
-        (
-            Shape {
-                lock_time: 1,
-                ..PLAIN
-            },
-            Some(BodyRefused::NotFinal),
-        ),
-        (
-            Shape {
-                lock_time: 1,
-                sequence: u32::MAX,
-                ..PLAIN
-            },
-            None,
-        ),
-        (
-            Shape {
-                lock_time: 1,
-                height: 2,
-                script: &[0x52, 0],
-                ..PLAIN
-            },
-            None,
-        ),
-        (
-            Shape {
-                lock_time: 500_000_000,
-                ..PLAIN
-            },
-            Some(BodyRefused::NotFinal),
-        ),
-        (
-            Shape {
-                lock_time: 500_000_000,
-                median: 500_000_001,
-                ..PLAIN
-            },
-            None,
-        ),
-        (
-            Shape {
-                lock_time: 599_999_999,
-                rules: LATE,
-                ..PLAIN
-            },
-            None,
-        ),
-        (
-            Shape {
-                lock_time: 600_000_000,
-                rules: LATE,
-                ..PLAIN
-            },
-            Some(BodyRefused::NotFinal),
-        ),
-        (
-            Shape {
-                script: &[0x52, 0],
-                ..PLAIN
-            },
-            Some(BodyRefused::BadHeight),
-        ),
-        (
-            Shape {
-                script: &[0x52, 0],
-                rules: LATE,
-                ..PLAIN
-            },
-            None,
-        ),
-    ];
-    assert_eq!(rt; wrong_rows(rt.alloc(), &rows)?, 0);
-    Ok(())
-}
-
-// Refusals beside the nearest blocks that are accepted.
-#[test]
-fn witnesses(rt: HostRuntime) -> Result<(), Fail> {
-    let rows: [(Shape, Option<BodyRefused>); 12] = [
-        (
-            Shape {
-                committed: Some(0),
-                ..PLAIN
-            },
-            Some(BodyRefused::WitnessNonce),
-        ),
-        (
-            Shape {
-                committed: Some(0),
-                items: &[&[0; 31]],
-                ..PLAIN
-            },
-            Some(BodyRefused::WitnessNonce),
-        ),
-        (
-            Shape {
-                committed: Some(0),
-                items: &[&NONCE],
-                ..PLAIN
-            },
-            None,
-        ),
-        (
-            Shape {
-                committed: Some(0),
-                items: &[&NONCE],
-                witness: &[&[1]],
-                ..PLAIN
-            },
-            None,
-        ),
-        (
-            Shape {
-                committed: Some(1),
-                items: &[&NONCE],
-                ..PLAIN
-            },
-            Some(BodyRefused::WitnessCommitment),
-        ),
-        (
-            Shape {
-                committed: Some(1),
-                rules: LATE,
-                ..PLAIN
-            },
-            None,
-        ),
-        (
-            Shape {
-                committed: Some(0),
-                items: &[&NONCE],
-                rules: LATE,
-                ..PLAIN
-            },
-            Some(BodyRefused::UnexpectedWitness),
-        ),
-        (
-            Shape {
-                witness: &[&[1]],
-                ..PLAIN
-            },
-            Some(BodyRefused::UnexpectedWitness),
-        ),
-        (
-            Shape {
-                witness: &[&[1]],
-                rules: LATE,
-                ..PLAIN
-            },
-            Some(BodyRefused::UnexpectedWitness),
-        ),
-        (
-            Shape {
-                items: &[&NONCE],
-                ..PLAIN
-            },
-            Some(BodyRefused::UnexpectedWitness),
-        ),
-        (
-            Shape {
-                committed: Some(0),
-                ..Shape {
-                    rules: LATE,
-                    ..PLAIN
-                }
-            },
-            None,
-        ),
-        (
-            Shape {
-                witness: &[&[1]],
-                values: &[-1],
-                ..PLAIN
-            },
-            Some(BodyRefused::BadValue),
-        ),
-    ];
-    assert_eq!(rt; wrong_rows(rt.alloc(), &rows)?, 0);
-    Ok(())
-}
-
-// The height at the head of the coinbase's script, and whether that script is accepted.
-#[test]
-fn heights(rt: HostRuntime) -> Result<(), Fail> {
-    let rows: [(u64, &[u8], bool); 12] = [
-        (1, &[0x51, 0], true),
-        (1, &[1, 1], false),
-        (16, &[0x60, 0], true),
-        (16, &[1, 16], false),
-        (17, &[1, 0x11], true),
-        (127, &[1, 0x7f], true),
-        (128, &[2, 0x80, 0], true),
-        (128, &[1, 0x80], false),
-        (200, &[2, 0xc8, 0], true),
-        (200, &[3, 0xc8, 0, 0], false),
-        (32768, &[3, 0, 0x80, 0], true),
-        (32768, &[2, 0, 0x80], false),
-    ];
-    for (height, script, accepted) in rows {
-        let shape = Shape {
-            height,
-            script,
-            ..PLAIN
-        };
-        let want = if accepted {
-            None
-        } else {
-            Some(BodyRefused::BadHeight)
-        };
-        assert_eq!(rt; answer(rt.alloc(), &shape)?, want, "height {height}");
-    }
-    Ok(())
-}

@@ -1,6 +1,9 @@
-//! What the files of a store stand for, as definitions in `specs/`, and the law on what of them can be broken.
+//! What the files of a store stand for, as definitions in `specs/`, and laws on it: what can be broken, and what small images
+//! stand for.
 #![tactic(auto)]
 
 mod breaks;
+mod small_stores;
 
 pub use breaks::broken_places;
+pub use small_stores::{one_block_stands, one_header_stands, two_blocks_replayed};

@@ -1,2 +1,9 @@
 mod Breaking
+mod BrokenImages
+mod BrokenReferences
 mod EachRecord
+mod OneBlock
+mod OneHeader
+mod ReadingSteps
+mod TwoReplayed
+mod Unsettled

@@ -1,12 +1,8 @@
 pub mod Breaks
-pub mod BrokenImages
-pub mod BrokenReferences
+pub mod Examples
 pub mod HashLength
-pub mod ReadingSteps
 pub mod Settled
-pub mod SmallBlocks
-pub mod SmallReplays
+pub mod SmallImages
 pub mod SmallStores
 pub mod SmallTrees
 pub mod State
-pub mod Unsettled

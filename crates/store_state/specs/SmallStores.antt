@@ -1,94 +1,99 @@
--- Images of one header, and of one block that was flushed: what they stand for, and that they are settled.
-use Rattle.std.proofs.Common.{◌≡◌, ℕ, true, List, [], ◌∷◌, ◌++◌, Option, Some, Ok, refl, ap, ◌∙◌, arith}
-use Rattle.std.specs.Prelude.{is_some, ◌==◌, if◌then◌else◌}
-use Rattle.std.specs.Result.{result_ok}
-use Rattle.std.proofs.lemmas.List.Elements.{All-nil, All-cons}
-use Rattle.std.specs.FinMap.{empty}
-use Rattle.disk_model.specs.Disk.{Image}
-use Rattle.batch_log.specs.Records.{log, records, AllFit}
-use Rattle.batch_log.specs.RecordLaws.{log_closed}
+-- Small stores: genesis with a header, with a block, and with two blocks above it.
+use Rattle.std.proofs.Common.{◌≡◌, ℕ, true, List, [], ◌∷◌, None, Ok}
+use Rattle.std.specs.List.{AllByRecursion}
+use Rattle.std.specs.FinMap.{empty, insert}
+use Rattle.base_types.specs.Coins.{Coins}
 use Rattle.base_types.specs.declared.hash.Hash32.{Hash32}
 use Rattle.base_types.specs.declared.program.Rules.{Rules}
-use Rattle.base_types.specs.declared.refused.HeaderRefused.{HeaderRefused}
+use Rattle.block_codec.specs.declared.block.Block.{Block}
 use Rattle.block_codec.specs.declared.block.Header.{Header}
-use Rattle.block_codec.specs.Fitting.{HeaderFits}
-use Rattle.block_store.specs.Headers.{headers_text, headers_of}
-use Rattle.block_store.specs.PayloadLaws.{headers_again}
-use Rattle.chain_model.specs.Apply.{replayed}
-use Rattle.chain_model.specs.Choice.{coins_at, is_valid}
-use Rattle.chain_model.specs.HeaderRules.{first_tree, grown, and_header, and_then}
+use Rattle.block_codec.specs.Fitting.{BlockFits}
+use Rattle.block_codec.specs.Text.{hash_of_header}
+use Rattle.block_store.specs.Bodies.{body_text}
+use Rattle.chain_model.specs.Apply.{outcome}
+use Rattle.chain_model.specs.BodyRules.{body_broken, place_below}
+use Rattle.chain_model.specs.Choice.{Choice}
+use Rattle.chain_model.specs.HeaderRules.{first_tree, with_header}
 use Rattle.chain_model.specs.Tree.{Tree, genesis_hash}
-use Rattle.store_state.specs.State.{◌>>=◌, StoreState, blocks_in, header_file, body_file, coin_file, there_or_broken, records_of, each_of, tree_after, read_tree, state_of, choice_of, chainstate_of}
-use Rattle.store_state.specs.Settled.{IsSettled, Settled}
-use Rattle.store_state.specs.ReadingSteps.{goes_on, one_record, one_each, no_bodies, no_batches, store_is}
-use Rattle.store_state.specs.SmallTrees.{IsChild, same_self, tree_of_one, genesis_in_one}
+use Rattle.coin_store.specs.declared.marker.Marker.TheVariants.{At}
+use Rattle.coin_store.specs.Batches.{Row, RowFits}
+use Rattle.coin_store.specs.Places.{coins_after_rows}
+use Rattle.store_state.specs.State.{StoreState, StoredBody, chainstate_of}
+use Rattle.store_state.specs.SmallImages.{batch_at}
+use Rattle.store_state.specs.SmallTrees.{IsChild}
 
--- an image whose files of headers, bodies and coins are logs of these payloads
-pub record HasLogs (image : Image) (header_payloads body_payloads coin_payloads : List (List ℕ)) : Type 0 where
-  pub headers : log (image header_file) ≡ Ok header_payloads
-  pub bodies : log (image body_file) ≡ Ok body_payloads
-  pub coins : log (image coin_file) ≡ Ok coin_payloads
+-- ---- no block
 
--- the bytes of a log that is closed behind these payloads
-abbrev pub closed_log : List (List ℕ) → List ℕ
-closed_log payloads = records payloads ++ 0 ∷ []
+-- genesis, with a header above it
+abbrev pub store_of_header : Rules → Header → StoreState
+store_of_header given header = record { tree = with_header (first_tree given) header; bodies = []; full = chainstate_of genesis_hash empty [] }
 
--- the image of three such files
-abbrev pub image_of : List (List ℕ) → List (List ℕ) → List (List ℕ) → Image
-image_of headers bodies coins file = if file == header_file then closed_log headers else if file == body_file then closed_log bodies else if file == coin_file then closed_log coins else []
+-- a store at genesis with these rows
+abbrev pub store_with_rows : Rules → List Row → StoreState
+store_with_rows given rows = record { tree = first_tree given; bodies = []; full = chainstate_of genesis_hash empty (batch_at genesis_hash rows ∷ []) }
 
-closed_is : (payloads : List (List ℕ)) → AllFit payloads → log (closed_log payloads) ≡ Ok payloads
-closed_is payloads fit = log_closed payloads (closed_log payloads) (record { fit = fit; gate = 0; rest = []; closed = λ e. absurd (omega (arith, e)); is = refl })
+-- ---- one block
 
-pub image_has_logs : (headers bodies coins : List (List ℕ)) → AllFit headers → AllFit bodies → AllFit coins → HasLogs (image_of headers bodies coins) headers bodies coins
-image_has_logs headers bodies coins h b c = record { headers = closed_is headers h; bodies = closed_is bodies b; coins = closed_is coins c }
+-- a child of genesis whose body breaks no rule there, the coins after it, and rows that give these coins
+pub record FirstBlock (limit : ℕ) (given : Rules) : Type 0 where
+  pub block : Block
+  pub coins : Coins
+  pub rows : List Row
+  pub fits : BlockFits block
+  pub child : IsChild limit (first_tree given) genesis_hash block.header
+  pub meets : body_broken (place_below (with_header (first_tree given) block.header) block.header.prev) block ≡ None
+  pub applies : outcome (with_header (first_tree given) block.header) empty block ≡ Ok coins
+  pub rows_fit : AllByRecursion RowFits rows
+  pub rows_give : coins_after_rows empty rows ≡ coins
 
--- it stands for this store, and is settled
-pub record StandsSettled (limit : ℕ) (given : Rules) (image : Image) (store : StoreState) : Type 0 where
-  pub stands_for : state_of limit given image ≡ Some store
-  pub settled : IsSettled store
+module _ (limit : ℕ) (given : Rules) (first : FirstBlock limit given) where
+  abbrev pub hash_of : Hash32
+  hash_of = hash_of_header first.block.header
 
-pub settled_as : (limit : ℕ) (given : Rules) (image : Image) (store : StoreState) → StandsSettled limit given image store → Settled limit given image
-settled_as limit given image store s = record { state = store; stands_for = s.stands_for; settled = s.settled }
+  abbrev pub tree_of : Tree
+  tree_of = with_header (first_tree given) first.block.header
 
--- ---- one header
+  -- the payload of the body, and what is read of it
+  abbrev pub body_payload : List ℕ
+  body_payload = body_text hash_of first.block
 
-module _ (limit : ℕ) (given : Rules) (header : Header) (fits : HeaderFits header) (child : IsChild limit (first_tree given) genesis_hash header) where
-  pub one_grown : grown limit (first_tree given) (header ∷ []) ≡ Some (tree_of_one limit given header child)
-  unfolding grown
-  one_grown = ap (λ (o : Option HeaderRefused). and_then (and_header o (first_tree given) header) (λ next. Some next)) child.accepted
+  abbrev pub body_stored : StoredBody
+  body_stored = record { hash = hash_of; payload = body_payload }
 
-  pub reads_headers : headers_of (headers_text (header ∷ [])) ≡ Some (header ∷ [])
-  reads_headers = headers_again (header ∷ []) (omega arith) (omega arith) (fits, tt)
+  -- the store of this block: its header, its body, and its coins at its hash
+  abbrev pub store_of_block : StoreState
+  store_of_block = record {
+    tree = tree_of;
+    bodies = body_stored ∷ [];
+    full = record { start = genesis_hash; start_coins = empty; marker = At hash_of; coins = first.coins };
+  }
 
-  -- the tree of a file with this header
-  pub reads_tree : (image : Image) → log (image header_file) ≡ Ok (headers_text (header ∷ []) ∷ []) → read_tree limit given image ≡ Ok (tree_of_one limit given header child)
-  unfolding tree_after
-  reads_tree image is =
-      let payload = headers_text (header ∷ []) in
-      goes_on (records_of image header_file) _ ((0, payload) ∷ []) (one_record image header_file payload is)
-      ∙ goes_on (each_of header_file headers_of ((0, payload) ∷ [])) _ ((0, header ∷ []) ∷ [])
-      (one_each header_file headers_of 0 payload (header ∷ []) reads_headers)
-      ∙ ap (λ (o : Option Tree). there_or_broken header_file 0 o >>= λ next. tree_after limit next []) one_grown
+-- ---- two blocks
 
-  -- genesis, with a header above it
-  abbrev pub store_of_header : StoreState
-  store_of_header = record { tree = tree_of_one limit given header child; bodies = []; full = chainstate_of genesis_hash empty [] }
+-- a child of genesis, and a child of that
+pub record TwoBlocks (limit : ℕ) (given : Rules) : Type 0 where
+  pub first : Block
+  pub second : Block
+  pub first_child : IsChild limit (first_tree given) genesis_hash first.header
+  pub second_child : IsChild limit (with_header (first_tree given) first.header) (hash_of_header first.header) second.header
 
-  no_replay : coins_at (choice_of store_of_header store_of_header.full) genesis_hash ≡ Some empty
-  unfolding blocks_in replayed
-  no_replay = rw (genesis_in_one limit given header child, same_self genesis_hash) refl
+module _ (limit : ℕ) (given : Rules) (blocks : TwoBlocks limit given) where
+  abbrev pub first_hash : Hash32
+  first_hash = hash_of_header blocks.first.header
 
-  -- such an image stands for the tree of genesis and the header, at genesis
-  pub one_header_stands : (image : Image) → HasLogs image (headers_text (header ∷ []) ∷ []) [] [] → StandsSettled limit given image store_of_header
-  one_header_stands image has =
-      let tree = tree_of_one limit given header child in
-      let Valid : Hash32 → Type 0 = λ tip. is_valid (choice_of store_of_header store_of_header.full) tip ≡ true in record {
-        stands_for = ap result_ok (store_is limit given image tree [] [] (reads_tree image has.headers) (no_bodies tree image has.bodies) (no_batches tree [] image has.coins));
-        settled = record {
-          bodies = All-nil _;
-          distinct = λ i j d low high. absurd (omega arith);
-          tips = All-cons Valid genesis_hash [] (ap is_some no_replay) (All-nil Valid);
-          rows = no_replay;
-        };
-      }
+  abbrev pub second_hash : Hash32
+  second_hash = hash_of_header blocks.second.header
+
+  abbrev pub tree_of_two : Tree
+  tree_of_two = with_header (with_header (first_tree given) blocks.first.header) blocks.second.header
+
+  -- what a chainstate at genesis chooses among, where both are stored
+  abbrev pub choice_of_two : Coins → Choice
+  choice_of_two start = record {
+    tree = tree_of_two;
+    bodies = insert (insert empty first_hash blocks.first) second_hash blocks.second;
+    start = genesis_hash;
+    start_coins = start;
+    tip = genesis_hash;
+    is_candidate = λ hash. true;
+  }

@@ -3,7 +3,11 @@
 #![tactic(auto)]
 
 mod breaks;
+mod small_breaks;
 mod small_stores;
 
 pub use breaks::broken_places;
-pub use small_stores::{one_block_stands, one_header_stands, two_blocks_replayed};
+pub use small_breaks::{broken_references, damaged_logs, malformed_records};
+pub use small_stores::{
+    one_block_stands, one_header_stands, two_blocks_replayed, unsettled_stores,
+};

@@ -1,5 +1,8 @@
-use Rattle.store_state.specs.SmallBlocks.{one_block_stands}
+use Rattle.store_state.proofs.OneBlock.{one_block_stands, stored_block}
 use Rattle.store_state.proofs.small_stores.one_block_stands.Goals as goal
 
-pub returns : goal.returns
-returns c = λ limit given first image has. one_block_stands limit given first image has
+pub returns-clause-stands : goal.returns-clause-stands
+returns-clause-stands c = λ limit given first image has. one_block_stands limit given first image has
+
+pub returns-clause-stored : goal.returns-clause-stored
+returns-clause-stored c = λ limit given first. stored_block limit given first

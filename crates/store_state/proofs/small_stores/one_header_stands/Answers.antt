@@ -1,4 +1,4 @@
-use Rattle.store_state.specs.SmallStores.{one_header_stands}
+use Rattle.store_state.proofs.OneHeader.{one_header_stands}
 use Rattle.store_state.proofs.small_stores.one_header_stands.Goals as goal
 
 pub returns : goal.returns

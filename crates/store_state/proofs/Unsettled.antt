@@ -1,46 +1,25 @@
 -- Which record counts where there are several, and images that aren't settled.
-use Rattle.std.proofs.Common.{◌≡◌, ℕ, true, List, [], ◌∷◌, Option, Some, Ok, refl, sym, ap, subst, ◌∙◌, arith}
+use Rattle.std.proofs.Common.{◌≡◌, ℕ, true, List, [], ◌∷◌, Some, Ok, refl, sym, ap, subst, ◌∙◌, arith}
 use Rattle.std.specs.Prelude.{◌≢◌, AllPairs}
 use Rattle.std.specs.Result.{result_ok}
-use Rattle.std.specs.FinMap.{get, empty, insert}
+use Rattle.std.specs.FinMap.{empty}
 use Rattle.disk_model.specs.Disk.{Image}
-use Rattle.base_types.specs.Coins.{Coins}
-use Rattle.base_types.specs.declared.hash.Hash32.{Hash32}
 use Rattle.base_types.specs.declared.program.Rules.{Rules}
-use Rattle.block_codec.specs.declared.block.Block.{Block}
-use Rattle.block_store.specs.Bodies.{body_of}
 use Rattle.chain_model.specs.Apply.{replayed}
 use Rattle.chain_model.specs.Choice.{coins_at}
 use Rattle.chain_model.specs.HeaderRules.{first_tree}
 use Rattle.chain_model.specs.Tree.{genesis_hash, first_headers, chain, chain_within}
 use Rattle.coin_store.specs.Batches.{Row, Batch, BatchFits}
 use Rattle.coin_store.specs.Places.{coins_after_rows}
-use Rattle.store_state.specs.State.{Record, StoreState, StoredBody, with_body, blocks_in, chainstate_of, choice_of, is_in, is_reached, coin_file, records_of, each_of, each_passes, last_reached, read_batches, state_of}
+use Rattle.store_state.specs.State.{Record, StoreState, StoredBody, blocks_in, choice_of, is_in, is_reached, coin_file, records_of, each_of, each_passes, last_reached, read_batches, state_of}
 use Rattle.store_state.specs.Settled.{IsSettled}
-use Rattle.store_state.specs.BrokenImages.{read_batch}
-use Rattle.store_state.specs.BrokenReferences.{knows_tips, batch_at, payload_at, reads_batch, tip_known, known_genesis}
-use Rattle.store_state.specs.ReadingSteps.{goes_on, one_record, one_each, one_passes, no_headers, no_bodies, store_is}
-use Rattle.store_state.specs.SmallBlocks.{last_batch}
-use Rattle.store_state.specs.SmallStores.{HasLogs}
-use Rattle.store_state.specs.SmallTrees.{get_same, same_self, at_genesis, one_member}
-
--- ---- several records
-
--- of two bodies of one hash the later counts
-pub later_body : (hash : Hash32) (first second : List ℕ) (a b : Block) → body_of first ≡ Some a → body_of second ≡ Some b
-    → get (blocks_in empty (record { hash = hash; payload = first } ∷ record { hash = hash; payload = second } ∷ [])) hash ≡ Some b
-unfolding blocks_in
-later_body hash first second a b one two =
-    ap (λ (o : Option Block). get (with_body hash (body_of second) (with_body hash o empty)) hash) one
-    ∙ ap (λ (o : Option Block). get (with_body hash o (insert empty hash a)) hash) two
-    ∙ get_same (insert empty hash a) hash b
-
--- of two batches the later has the marker, and its rows come after those of the first
-pub later_marker : (start : Hash32) (coins : Coins) (first second : Batch) → (chainstate_of start coins (first ∷ second ∷ [])).marker ≡ second.marker
-later_marker start coins first second = refl
-
-pub later_rows : (start : Hash32) (coins : Coins) (first second : Batch) → (chainstate_of start coins (first ∷ second ∷ [])).coins ≡ coins_after_rows (coins_after_rows coins first.rows) second.rows
-later_rows start coins first second = refl
+use Rattle.store_state.proofs.BrokenImages.{read_batch}
+use Rattle.store_state.proofs.BrokenReferences.{knows_tips, reads_batch, tip_known, known_genesis}
+use Rattle.store_state.proofs.ReadingSteps.{goes_on, one_record, one_each, one_passes, no_headers, no_bodies, store_is}
+use Rattle.store_state.proofs.OneBlock.{last_batch}
+use Rattle.store_state.specs.SmallImages.{HasLogs, batch_at, payload_at}
+use Rattle.store_state.specs.SmallStores.{store_with_rows}
+use Rattle.store_state.specs.SmallTrees.{same_self, at_genesis, one_member}
 
 -- ---- not settled
 
@@ -53,10 +32,6 @@ one_hash a b same all = all 0 1 a (omega arith) (omega arith) same
 -- a store in which a hash has two records
 pub twice_stored : (store : StoreState) (a b : StoredBody) → a.hash ≡ b.hash → store.bodies ≡ a ∷ b ∷ [] → IsSettled store → ⊥
 twice_stored store a b same is settled = one_hash a b same (subst Distinct is settled.distinct)
-
--- a store at genesis with these rows
-abbrev pub store_with_rows : Rules → List Row → StoreState
-store_with_rows given rows = record { tree = first_tree given; bodies = []; full = chainstate_of genesis_hash empty (batch_at genesis_hash rows ∷ []) }
 
 chain_of_genesis : chain first_headers genesis_hash ≡ genesis_hash ∷ []
 chain_of_genesis = ap (λ (n : ℕ). chain_within n first_headers genesis_hash) one_member ∙ at_genesis 0 first_headers

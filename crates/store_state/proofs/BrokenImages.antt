@@ -6,7 +6,6 @@ use Rattle.std.proofs.lemmas.Nat.{from_le_bytes-to_le_bytes_4}
 use Rattle.disk_model.specs.Disk.{Image}
 use Rattle.batch_log.specs.Records.{log, records, length_at}
 use Rattle.batch_log.specs.RecordLaws.{log_damaged}
-use Rattle.base_types.specs.Views.{BrokenPlace}
 use Rattle.base_types.specs.declared.hash.Hash32.{Hash32}
 use Rattle.base_types.specs.declared.program.Rules.{Rules}
 use Rattle.chain_model.specs.HeaderRules.{first_tree}
@@ -14,48 +13,20 @@ use Rattle.coin_store.specs.declared.marker.Marker.TheVariants.{Between}
 use Rattle.coin_store.specs.Batches.{Row, Batch, BatchFits, batch_text}
 use Rattle.coin_store.specs.BatchLaws.{batch_again}
 use Rattle.coin_store.specs.Reading.{batch_of}
-use Rattle.store_state.specs.State.{settled_batch, header_file, body_file, coin_file, first_key, whole_log, records_of, each_of, read_store}
-use Rattle.store_state.specs.Breaks.{IsBroken, DamagedLog, NoHeaders, NoBody, NoBatch}
-use Rattle.store_state.specs.ReadingSteps.{goes_on, stops, one_record, first_unread, no_headers, no_bodies, stops_in_tree, stops_in_bodies, stops_in_batches}
-
-abbrev pub place_at : ℕ → ℕ → BrokenPlace
-place_at file at = record { file = file; at = at }
-
--- reading stops at this place, which is one of those that are broken
-abbrev pub IsBrokenAt : ℕ → Rules → Image → ℕ → ℕ → Type 0
-IsBrokenAt limit given image file at = (read_store limit given image ≡ Err (place_at file at)) × IsBroken limit given image (place_at file at)
-
--- ---- logs
-
--- a file of one byte is an empty log, also where that byte is an open gate
-pub one_open_byte : log (1 ∷ []) ≡ Ok []
-one_open_byte = refl
-
--- with one more byte there is no whole record behind that gate
-pub two_bytes : log (1 ∷ 0 ∷ []) ≡ Err 0
-two_bytes = refl
-
--- a whole record needs a next gate
-pub no_next_gate : log (1 ∷ 1 ∷ 0 ∷ 0 ∷ 0 ∷ 7 ∷ []) ≡ Err 0
-no_next_gate = refl
-
--- and then it is a payload, here of one byte
-pub next_gate : log (1 ∷ 1 ∷ 0 ∷ 0 ∷ 0 ∷ 7 ∷ 0 ∷ []) ≡ Ok ((7 ∷ []) ∷ [])
-next_gate = refl
+use Rattle.store_state.specs.State.{settled_batch, header_file, body_file, coin_file, first_key, whole_log, records_of, each_of}
+use Rattle.store_state.specs.Breaks.{DamagedLog, NoHeaders, NoBody, NoBatch}
+use Rattle.store_state.proofs.ReadingSteps.{goes_on, stops, one_record, first_unread, no_headers, no_bodies, stops_in_tree, stops_in_bodies, stops_in_batches}
+use Rattle.store_state.specs.SmallImages.{IsBrokenAt, place_at, cut_in_second}
 
 -- ---- a damaged gate
 
 -- a file of headers that is an open gate and no record
 pub open_gate_alone : (limit : ℕ) (given : Rules) (image : Image) → image header_file ≡ 1 ∷ 0 ∷ [] → IsBrokenAt limit given image header_file 0
 open_gate_alone limit given image is =
-    let bad : log (image header_file) ≡ Err 0 = ap log is ∙ two_bytes in (
+    let bad : log (image header_file) ≡ Err 0 = ap log is in (
       stops_in_tree limit given image (place_at header_file 0) (stops (records_of image header_file) _ (place_at header_file 0) (ap (whole_log header_file) bad)),
       DamagedLog header_file 0 (inl refl) bad,
     )
-
--- a record, and then a gate, a length and only a part of the payload
-abbrev pub cut_in_second : List ℕ → List ℕ → ℕ → List ℕ
-cut_in_second first second n = records (first ∷ []) ++ 1 ∷ (to_le_bytes w32 (length second) ++ take n second)
 
 pub cut_log : (first second : List ℕ) (n : ℕ) → length first < 2 ^ 32 → length second < 2 ^ 32 → log (cut_in_second first second n) ≡ Err (length (records (first ∷ [])))
 cut_log first second n first_fits second_fits =

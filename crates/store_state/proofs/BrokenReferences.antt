@@ -21,15 +21,15 @@ use Rattle.block_codec.specs.Fitting.{HeaderFits}
 use Rattle.block_codec.specs.BlockLaws.{length-header}
 use Rattle.block_codec.specs.Text.{hash_of_header}
 use Rattle.block_store.specs.Headers.{headers_text, headers_of}
-use Rattle.coin_store.specs.declared.marker.Marker.TheVariants.{At}
-use Rattle.coin_store.specs.Batches.{Row, Batch, HashFits, BatchFits, batch_text}
+use Rattle.coin_store.specs.Batches.{Row, Batch, HashFits, BatchFits}
 use Rattle.coin_store.specs.BatchLaws.{batch_again}
 use Rattle.store_state.specs.State.{Record, there_or_broken, true_or_broken, has_record, is_reached, tree_after, last_reached, StoredBody, stored_body, and_payload, settled_batch, is_in, tips_of, header_file, body_file, coin_file, first_key, records_of, each_of, each_passes}
 use Rattle.store_state.specs.Breaks.{UnknownBody, UnknownTip, RefusedHeader, Unreached}
-use Rattle.store_state.specs.ReadingSteps.{goes_on, stops, one_record, two_records, one_each, more_each, first_fails, later_fails, one_passes, stops_in_batches, no_headers, no_bodies, stops_in_tree, stops_in_bodies}
+use Rattle.store_state.proofs.ReadingSteps.{goes_on, stops, one_record, two_records, one_each, more_each, first_fails, later_fails, one_passes, stops_in_batches, no_headers, no_bodies, stops_in_tree, stops_in_bodies}
+use Rattle.store_state.specs.SmallImages.{HasLogs, IsBrokenAt, place_at, batch_at, payload_at}
 use Rattle.store_state.specs.SmallTrees.{IsChild, get_other, genesis_known, tree_of_one, known_of_one, reaches_one, path_of_one}
-use Rattle.store_state.specs.SmallStores.{HasLogs, reads_tree, one_grown, reads_headers}
-use Rattle.store_state.specs.BrokenImages.{IsBrokenAt, place_at, read_batch}
+use Rattle.store_state.proofs.OneHeader.{reads_tree, one_grown, reads_headers}
+use Rattle.store_state.proofs.BrokenImages.{read_batch}
 
 -- ---- hashes that aren't in the tree
 
@@ -45,13 +45,6 @@ knows_tips tree batch = list_all (is_in tree) (tips_of batch.marker)
 
 abbrev pub knows_body : Tree → StoredBody → Bool
 knows_body tree body = is_in tree body.hash
-
--- a batch, whose marker is a tip
-abbrev pub batch_at : Hash32 → List Row → Batch
-batch_at tip rows = record { marker = At tip; rows = rows }
-
-abbrev pub payload_at : Hash32 → List Row → List ℕ
-payload_at tip rows = batch_text first_key (batch_at tip rows)
 
 pub reads_batch : (tip : Hash32) (rows : List Row) → BatchFits (batch_at tip rows) → read_batch (payload_at tip rows) ≡ Some (batch_at tip rows)
 reads_batch tip rows fits = ap settled_batch (batch_again first_key (batch_at tip rows) fits)

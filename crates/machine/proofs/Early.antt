@@ -5,7 +5,7 @@ use Rattle.std.specs.List.{AllByRecursion}
 use Rattle.base_types.specs.declared.flushes.Chain.{Chain}
 use Rattle.base_types.specs.declared.flushes.Chain.TheVariants.{Full, Snapshot}
 use Rattle.base_types.specs.declared.flushes.Flushed.{Flushed}
-use Rattle.machine.specs.Marks.{Mark, marks, if_full, done_by, NoneKept}
+use Rattle.machine.specs.Marks.{marks, if_full, done_by, NoneKept}
 use Rattle.machine.specs.Clauses.{ReadsWithin}
 
 -- none was done by then

@@ -1,23 +1,22 @@
 -- An empty disk is settled, at genesis and without coins.
-use Rattle.std.proofs.Common.{◌≡◌, ℕ, ◌+◌, true, false, List, [], ◌∷◌, Bool, cond, Option, Some, None, refl, sym, ap, ◌∙◌, arith, nat_eq, is_some}
+use Rattle.std.proofs.Common.{◌≡◌, ℕ, ◌+◌, true, List, [], ◌∷◌, Bool, cond, Option, Some, refl, ap, ◌∙◌, arith, nat_eq, is_some}
 use Rattle.std.proofs.lemmas.Bool.Decides.{nat_tests}
-use Rattle.std.specs.Prelude.{bytes_eq, Ok, not, reverse, take_while, All}
+use Rattle.std.specs.Prelude.{bytes_eq}
 use Rattle.std.proofs.lemmas.List.Elements.{All-nil, All-cons}
 use Rattle.std.specs.FinMap.{empty, len-insert, get-empty, len-empty}
 use Rattle.std.specs.FinMap as finite
 use Rattle.disk_model.specs.Disk.{Image}
-use Rattle.batch_log.specs.Records.{log}
 use Rattle.base_types.specs.Keys.{hash_cmp, hash_cmp_total}
 use Rattle.block_codec.specs.declared.block.Header.{Header}
 use Rattle.base_types.specs.declared.hash.Hash32.{Hash32}
 use Rattle.base_types.specs.declared.program.Rules.{Rules}
 use Rattle.block_codec.specs.Text.{same_hash}
-use Rattle.chain_model.specs.Tree.{Headers, genesis, genesis_hash, first_headers, chain, chain_within, path, and_below}
+use Rattle.chain_model.specs.Tree.{genesis, genesis_hash, first_headers, chain, chain_within, and_below}
 use Rattle.chain_model.specs.HeaderRules.{first_tree}
 use Rattle.chain_model.specs.Choice.{coins_at, is_valid}
 use Rattle.chain_model.specs.Apply.{replayed}
-use Rattle.store_state.specs.State.{StoreState, state_of, read_store, choice_of, chainstate_of, gated, each_of, each_passes, tree_after, last_reached, blocks_in}
-use Rattle.store_state.specs.Settled.{Settled, IsSettled}
+use Rattle.store_state.specs.State.{StoreState, state_of, choice_of, chainstate_of, gated, each_of, each_passes, tree_after, last_reached, blocks_in}
+use Rattle.store_state.specs.Settled.{Settled}
 
 abbrev pub empty_store : Rules → StoreState
 empty_store given = record { tree = first_tree given; bodies = []; full = chainstate_of genesis_hash empty [] }

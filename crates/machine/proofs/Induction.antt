@@ -1,5 +1,5 @@
 -- What the images at the entry of each run are.
-use Rattle.std.proofs.Common.{◌≡◌, ⊎_elim, ℕ, zero, suc, ◌+◌, ◌<◌, ◌≤◌, true, false, List, [], ◌∷◌, ◌++◌, Option, Some, None, refl, sym, ap, subst, ◌∙◌, arith, le_refl}
+use Rattle.std.proofs.Common.{◌≡◌, ⊎_elim, ℕ, zero, suc, ◌+◌, ◌≤◌, true, List, [], ◌++◌, Some, None, refl, sym, ap, subst, ◌∙◌, arith, le_refl}
 use Rattle.std.specs.List.{AllByRecursion}
 use Rattle.disk_model.specs.Disk.{Image}
 use Rattle.base_types.specs.declared.flushes.Flushed.{Flushed}
@@ -16,7 +16,7 @@ use Rattle.machine.specs.Marks.{Mark, marks, done_by, StandsAt, NoneKept}
 use Rattle.machine.specs.Runs.{Run}
 use Rattle.machine.specs.Tips.{AllSettled, AsAtEntry, FromTip, IfOpened, IsEarly}
 use Rattle.machine.specs.Answers.{FoundIn, found_of}
-use Rattle.machine.specs.Clauses.{IsRun, InOrder, ReadsWithin}
+use Rattle.machine.specs.Clauses.{IsRun, InOrder}
 use Rattle.machine.specs.Histories.{Stop, Finished, Stopped, moment, GoesOn, OpensWell, ToldAreKept, history}
 use Rattle.machine.proofs.Early.{none_early, idle, all_told}
 use Rattle.machine.proofs.Empty.{empty_store, at_empty, empty_settled}

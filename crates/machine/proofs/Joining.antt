@@ -10,7 +10,7 @@ use Rattle.base_types.specs.declared.hash.Hash32.{Hash32}
 use Rattle.base_types.specs.declared.program.Rules.{Rules}
 use Rattle.store_state.specs.State.{StoreState, state_of, tip_of}
 use Rattle.machine.specs.State.{Event, HeadersStored, BodyStored, Flush}
-use Rattle.machine.specs.Marks.{Mark, marks, if_full, done_by, StandsAt, NoneKept}
+use Rattle.machine.specs.Marks.{Mark, marks, if_full, done_by, StandsAt}
 use Rattle.machine.specs.Tips.{AllSettled, IsAfterSome, Stored, stored_in, stored_after, kept_count, with_later, flush_count}
 use Rattle.machine.specs.Clauses.{ReadsWithin}
 use Rattle.machine.specs.Calls.{Call, Passes, IsCall, EndsWell, Follows, joined}

@@ -1,8 +1,16 @@
+mod BlockHistory
 mod Early
 mod Empty
+mod FirstClauses
+mod FirstRun
+mod GenesisSteps
+mod ImportSteps
 mod Induction
 mod Joining
+mod LaterRun
 mod Marking
 mod Meets
 mod Opening
 mod Replays
+mod StoreLaws
+mod WholeReplies

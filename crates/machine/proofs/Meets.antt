@@ -1,9 +1,7 @@
 -- The runs of the example meet the clauses.
-use Rattle.std.proofs.Common.{◌≡◌, inl, inr, ℕ, ◌≤◌, true, false, Bool, List, [], ◌∷◌, ◌++◌, append-nil, length, cond, Some, None, refl, sym, ap, subst, ◌∙◌, arith, le_refl, nat_le}
+use Rattle.std.proofs.Common.{◌≡◌, inl, inr, ℕ, ◌≤◌, true, false, Bool, List, [], ◌∷◌, ◌++◌, append-nil, length, cond, Some, refl, sym, ap, subst, ◌∙◌, arith, le_refl, nat_le}
 use Rattle.std.proofs.lemmas.Bool.Decides.{nat_tests}
 use Rattle.disk_model.specs.Disk.{Image}
-use Rattle.base_types.specs.declared.hash.Hash32.{Hash32}
-use Rattle.base_types.specs.declared.flushes.Chain.{Chain}
 use Rattle.chain_model.specs.Tree.{genesis_hash}
 use Rattle.command_text.specs.Lines.{pieces_between, without_return}
 use Rattle.command_text.specs.Replies.{reply_text}
@@ -13,14 +11,12 @@ use Rattle.base_types.specs.declared.flushes.Chain.TheVariants.{Full}
 use Rattle.base_types.specs.declared.flushes.Why.TheVariants.{End}
 use Rattle.machine.specs.State.{Event, Flush, height_of}
 use Rattle.store_state.specs.State.{StoreState, state_of, tip_of}
-use Rattle.store_state.specs.Settled.{Settled}
-use Rattle.machine.specs.Tips.{AllSettled, SinceOpening, stored_in, kept_count, with_later}
+use Rattle.machine.specs.Tips.{SinceOpening, stored_in, kept_count, with_later}
 use Rattle.machine.specs.Courses.{Course, replies_of, whole}
 use Rattle.machine.specs.Answers.{Answers, whole_replies, flushes_told_by}
-use Rattle.machine.specs.Clauses.{IsRun, AfterOpening, now_at}
-use Rattle.machine.specs.Steps.{at_end}
+use Rattle.machine.specs.Clauses.{IsRun, AfterOpening}
 use Rattle.machine.specs.CutRuns.{no_bytes, IsEmptyDisk, from_the_start, no_blocks, first_now, empty_line, the_flush, the_run}
-use Rattle.machine.proofs.Empty.{at_empty, empty_settled}
+use Rattle.machine.proofs.Empty.{at_empty}
 use Rattle.machine.proofs.Induction.{same_store}
 
 stands_for : (c : Image) → IsEmptyDisk c → state_of 1 from_the_start c ≡ Some no_blocks

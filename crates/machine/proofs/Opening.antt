@@ -5,7 +5,7 @@ use Rattle.base_types.specs.declared.hash.Hash32.{Hash32}
 use Rattle.base_types.specs.declared.program.Rules.{Rules}
 use Rattle.store_state.specs.State.{StoreState, state_of, tip_of}
 use Rattle.machine.specs.Marks.{marks, StandsAt}
-use Rattle.machine.specs.Tips.{AllSettled, AsAtEntry, SinceOpening, IsAfterSome, stored_in, stored_after, kept_count}
+use Rattle.machine.specs.Tips.{AllSettled, AsAtEntry, SinceOpening, IsAfterSome, stored_after, kept_count}
 use Rattle.machine.specs.Calls.{Call, IsCall, IsOpening, IsOpenedRun, Follows, opened_at}
 use Rattle.machine.proofs.Joining.{When, Before, Within, below_or_not, weaken, kept_grows}
 

@@ -1,5 +1,5 @@
 -- A settled chainstate has the coins of replaying its blocks.
-use Rattle.std.proofs.Common.{◌≡◌, Option, Some, None}
+use Rattle.std.proofs.Common.{◌≡◌, Some}
 use Rattle.coin_store.specs.declared.marker.Marker.{Marker}
 use Rattle.coin_store.specs.declared.marker.Marker.TheVariants.{At, Between}
 use Rattle.chain_model.specs.Choice.{coins_at}

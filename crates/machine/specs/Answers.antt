@@ -1,12 +1,12 @@
 -- What a run finds in opening, and what it answers.
-use Rattle.std.specs.Prelude.{◌≡◌, ◌≢◌, ℕ, zero, suc, ◌-◌, ◌≤◌, Bool, true, false, ◌&&◌, List, [], ◌∷◌, ◌++◌, length, map, filter, take, cond, nat_le, is_some, slice_get, Option, Some, None, Result, Ok, Err}
+use Rattle.std.specs.Prelude.{◌≡◌, ◌≢◌, ℕ, zero, suc, ◌-◌, ◌≤◌, Bool, true, false, ◌&&◌, List, [], ◌∷◌, ◌++◌, length, map, filter, take, cond, nat_le, is_some, slice_get, Option, Some, None, Result, Ok}
 use Rattle.std.specs.List.{AllByRecursion, filter_map}
 use Rattle.std.specs.Option.{option_and_then}
 use Rattle.disk_model.specs.Disk.{Image}
 use Rattle.base_types.specs.declared.flushes.Chain.{Chain}
 use Rattle.base_types.specs.declared.flushes.Flushed.{Flushed}
 use Rattle.base_types.specs.declared.flushes.Why.{Why}
-use Rattle.base_types.specs.declared.flushes.Why.TheVariants.{Command, Limit, Base, Dump, Compact, End}
+use Rattle.base_types.specs.declared.flushes.Why.TheVariants.{Command, End}
 use Rattle.base_types.specs.declared.hash.Hash32.{Hash32}
 use Rattle.base_types.specs.declared.program.Rules.{Rules}
 use Rattle.base_types.specs.declared.program.Status.{Status}
@@ -24,7 +24,7 @@ use Rattle.machine.specs.declared.report.Found.{Found}
 use Rattle.machine.specs.declared.report.Opened.{Opened}
 use Rattle.machine.specs.declared.report.Opened.TheVariants.{Not, Yes}
 use Rattle.store_state.specs.State.{StoreState, Chainstate, state_of, tip_of}
-use Rattle.machine.specs.State.{Setting, Event, HeadersStored, BodyStored, Flush}
+use Rattle.machine.specs.State.{Event, HeadersStored, BodyStored, Flush}
 use Rattle.machine.specs.Steps.{Now, Did, OthersStay}
 use Rattle.machine.specs.Courses.{Course, lines_in, whole, ended, replies_of, events_of, text_of, host_faults}
 use Rattle.machine.specs.Runs.{Run}

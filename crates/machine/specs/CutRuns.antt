@@ -1,5 +1,5 @@
 -- Runs that meet the clauses: each opens an empty disk, flushes at the end of an empty input, and is cut after that.
-use Rattle.std.specs.Prelude.{◌≡◌, ℕ, List, [], ◌∷◌, true, Some, None}
+use Rattle.std.specs.Prelude.{◌≡◌, [], ◌∷◌, true, Some, None}
 use Rattle.std.specs.FinMap.{empty}
 use Rattle.disk_model.specs.Disk.{Image}
 use Rattle.base_types.specs.declared.flushes.Chain.TheVariants.{Full}

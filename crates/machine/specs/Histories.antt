@@ -1,5 +1,5 @@
 -- Lists of runs, each finished or cut by a crash.
-use Rattle.std.specs.Prelude.{◌≡◌, ℕ, ◌≤◌, zero, suc, Bool, true, List, [], ◌++◌, Some}
+use Rattle.std.specs.Prelude.{◌≡◌, ℕ, ◌≤◌, zero, suc, true, List, [], ◌++◌, Some}
 use Rattle.std.specs.List.{AllByRecursion}
 use Rattle.disk_model.specs.Disk.{Image}
 use Rattle.base_types.specs.declared.hash.Hash32.{Hash32}

@@ -1,4 +1,5 @@
 pub mod Answers
+pub mod BlockRuns
 pub mod Calls
 pub mod Clauses
 pub mod Courses
@@ -7,6 +8,7 @@ pub mod Histories
 pub mod Marks
 pub mod Moves
 pub mod Runs
+pub mod SmallStates
 pub mod State
 pub mod Steps
 pub mod Tips

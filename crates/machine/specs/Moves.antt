@@ -5,7 +5,6 @@ use Rattle.std.specs.Option.{option_map_or}
 use Rattle.std.specs.FinMap.{get, contains_key, entries}
 use Rattle.std.specs.FinMap as finite
 use Rattle.base_types.specs.Coins.{Coins}
-use Rattle.base_types.specs.declared.flushes.Chain.{Chain}
 use Rattle.base_types.specs.declared.flushes.Chain.TheVariants.{Full}
 use Rattle.base_types.specs.declared.flushes.Why.{Why}
 use Rattle.base_types.specs.declared.flushes.Why.TheVariants.{Limit}
@@ -16,11 +15,10 @@ use Rattle.block_codec.specs.declared.block.Block.{Block}
 use Rattle.block_codec.specs.declared.block.Header.{Header}
 use Rattle.block_codec.specs.Text.{same_hash}
 use Rattle.chain_model.specs.Apply.{outcome}
-use Rattle.chain_model.specs.BodyRules.{same_outpoint, others_of}
+use Rattle.chain_model.specs.BodyRules.{same_outpoint}
 use Rattle.chain_model.specs.Coins.{outputs_of}
-use Rattle.command_text.specs.declared.reply.Reply.{Reply}
 use Rattle.command_text.specs.declared.reply.Reply.TheVariants as reply
-use Rattle.machine.specs.State.{Setting, Standing, State, Moved, Event, Flush, still, and_then, choice_of, coins_of, height_of}
+use Rattle.machine.specs.State.{Setting, State, Moved, Flush, still, and_then, coins_of, height_of}
 
 -- ---- flushes
 

@@ -1,8 +1,7 @@
 -- A run of the program as plain values.
-use Rattle.std.specs.Prelude.{◌≡◌, ℕ, ◌≤◌, Bool, List}
+use Rattle.std.specs.Prelude.{ℕ, ◌≤◌, Bool, List}
 use Rattle.disk_model.specs.Disk.{Image}
 use Rattle.base_types.specs.declared.flushes.Flushed.{Flushed}
-use Rattle.base_types.specs.declared.program.Rules.{Rules}
 use Rattle.base_types.specs.declared.program.Status.{Status}
 use Rattle.io_traits.specs.Host.{Files}
 use Rattle.machine.specs.State.{Setting}

@@ -1,5 +1,5 @@
 -- Where the machine stands, and what happens in it.
-use Rattle.std.specs.Prelude.{◌≡◌, ℕ, zero, suc, ◌+◌, Bool, true, false, not, List, [], ◌∷◌, ◌++◌, length, map, take, drop, Option, Some, None, unwrap_or}
+use Rattle.std.specs.Prelude.{ℕ, zero, suc, true, List, [], ◌∷◌, ◌++◌, length, take, drop, unwrap_or}
 use Rattle.std.specs.FinMap.{empty}
 use Rattle.base_types.specs.Coins.{Coins}
 use Rattle.base_types.specs.declared.flushes.Chain.{Chain}

@@ -1,5 +1,5 @@
 -- What each line does.
-use Rattle.std.specs.Prelude.{◌≡◌, ◌≢◌, ◌⊎◌, ℕ, zero, suc, ◌+◌, ◌-◌, ◌≤◌, ◌<◌, Bool, true, false, not, ◌&&◌, ◌||◌, List, [], ◌∷◌, ◌++◌, length, map, take, drop, fold, cond, Option, Some, None, Result, Ok, Err}
+use Rattle.std.specs.Prelude.{◌≡◌, ◌≢◌, ◌⊎◌, ℕ, ◌+◌, ◌-◌, ◌≤◌, ◌<◌, Bool, true, false, ◌||◌, List, [], ◌∷◌, length, map, take, fold, Option, Some, None, Result, Ok, Err}
 use Rattle.std.specs.Option.{option_map}
 use Rattle.std.specs.FinMap.{get, insert, contains_key}
 use Rattle.std.specs.FinMap as finite
@@ -26,7 +26,7 @@ use Rattle.command_text.specs.declared.reply.Reply.TheVariants as says
 use Rattle.command_text.specs.declared.reply.TxOutFound.{TxOutFound}
 use Rattle.command_text.specs.declared.reply.Role.TheVariants as role
 use Rattle.command_text.specs.declared.reply.Rule.TheVariants as rule
-use Rattle.machine.specs.State.{Setting, Standing, State, Moved, Event, BodyStored, header_events, still, and_then, and_reply, choice_of, coins_of, height_of}
+use Rattle.machine.specs.State.{Setting, State, Moved, Event, BodyStored, header_events, still, and_then, and_reply, coins_of, height_of}
 use Rattle.machine.specs.Moves.{flush, Advances}
 
 -- where the machine and the host's files stand

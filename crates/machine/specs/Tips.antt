@@ -1,18 +1,14 @@
 -- What a crash at any moment of a run leaves: settled images, the tip, and what was stored.
-use Rattle.std.specs.Prelude.{◌≡◌, ◌⊎◌, ℕ, zero, suc, ◌<◌, ◌≤◌, Bool, true, false, List, [], ◌∷◌, ◌++◌, fold, Option, Some, None}
+use Rattle.std.specs.Prelude.{◌≡◌, ◌⊎◌, ℕ, zero, suc, ◌<◌, ◌≤◌, Bool, true, false, List, [], ◌∷◌, ◌++◌, fold, Some, None}
 use Rattle.std.specs.FinMap.{empty, insert}
 use Rattle.disk_model.specs.Disk.{Image}
 use Rattle.base_types.specs.declared.flushes.Flushed.{Flushed}
 use Rattle.base_types.specs.declared.hash.Hash32.{Hash32}
 use Rattle.base_types.specs.declared.program.Rules.{Rules}
-use Rattle.base_types.specs.declared.program.Status.{Status}
 use Rattle.base_types.specs.declared.program.Status.TheVariants as status
-use Rattle.block_codec.specs.declared.block.Header.{Header}
 use Rattle.chain_model.specs.Tree.{Tree}
 use Rattle.chain_model.specs.HeaderRules.{with_header}
 use Rattle.chain_model.specs.Choice.{Bodies}
-use Rattle.coin_store.specs.declared.marker.Marker.{Marker}
-use Rattle.machine.specs.declared.report.Found.{Found}
 use Rattle.machine.specs.declared.report.Opened.{Opened}
 use Rattle.machine.specs.declared.report.Opened.TheVariants.{Not, Yes}
 use Rattle.store_state.specs.State.{StoreState, state_of, tip_of, blocks_in}

@@ -2,12 +2,16 @@
 //! after any list of runs, each finished or cut by a crash, a run that opens has the coins of replaying the blocks.
 #![tactic(auto)]
 
+mod block_runs;
 mod calls;
 mod example;
 mod report;
+mod small_steps;
 mod theorem;
 
+pub use block_runs::block_runs_open;
 pub use calls::{TwoCalls, both_calls, opening_and_call};
 pub use example::{CutRuns, cut_runs_open};
 pub use report::{Found, Opened, Report};
+pub use small_steps::{steps_from_genesis, steps_with_a_block};
 pub use theorem::{History, opens_with_acknowledged_coins, stands_in_words};

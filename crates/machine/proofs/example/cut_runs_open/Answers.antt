@@ -1,4 +1,3 @@
-use Rattle.std.proofs.Common.{refl, arith}
 use Rattle.machine.proofs.Meets.{is_run}
 use Rattle.machine.proofs.example.cut_runs_open.Goals as goal
 

@@ -143,6 +143,29 @@ fn blocks_are_refused(rt: HostRuntime) -> Result<(), Fail> {
     Ok(())
 }
 
+// A second block without the first, and a frame without its last byte, which is none.
+#[test]
+fn files_are_cut(rt: HostRuntime) -> Result<(), Fail> {
+    let mut files = MemHost::new(rt.alloc(), &[])?;
+    outcome(rt.alloc(), &mut files, b"generate 2 2 a.dat\n", &[], &[])?;
+    let mut bytes = Vec::new(rt.alloc());
+    bytes.extend_from_slice(files.get("a.dat").ok_or("no file")?)?;
+    files.put("b.dat", bytes.get(160..).ok_or("short")?)?;
+    files.put("c.dat", bytes.get(..343).ok_or("short")?)?;
+    let (_, out) = outcome(
+        rt.alloc(),
+        &mut files,
+        b"fold b.dat\nfold c.dat\n",
+        &[],
+        &[],
+    )?;
+    assert_eq!(rt;
+        out.as_slice(),
+        b"refused not-next 0d1a5a730c31c30310b19dbadbbacab667b163e0b6431297944d26d157eafcab\nfolded 1 1 7dbd00060f068713b8f1b308858563f9d54cbc89dbc3c7cfbd05b9355a8fd52a 1\n".as_slice()
+    );
+    Ok(())
+}
+
 // A file without bytes, and genesis before the blocks of another file, which is passed over and counted.
 #[test]
 fn genesis_is_passed_over(rt: HostRuntime) -> Result<(), Fail> {
@@ -183,5 +206,50 @@ fn lengths_are_limited(rt: HostRuntime) -> Result<(), Fail> {
     let (status, out) = outcome(rt.alloc(), &mut files, &ends, &[], &[])?;
     assert_eq!(rt; status, Status::TooLong);
     assert_eq!(rt; out.as_slice().is_empty(), true);
+    Ok(())
+}
+
+// A source that fails at its second read, and a sink that fails at once.
+#[test]
+fn failing_streams_end_the_run(rt: HostRuntime) -> Result<(), Fail> {
+    let mut files = MemHost::new(rt.alloc(), &[])?;
+    let (status, out) = outcome(rt.alloc(), &mut files, b"fold a.dat\n", &[2], &[])?;
+    assert_eq!(rt; status, Status::InFault);
+    assert_eq!(rt; out.as_slice(), b"refused host-fault\n".as_slice());
+    let (status, _) = outcome(rt.alloc(), &mut files, b"fold a.dat\n", &[], &[1])?;
+    assert_eq!(rt; status, Status::OutFault);
+    Ok(())
+}
+
+// A host of which these calls fail.
+fn failing_host(alloc: Global, calls: &[u64]) -> Result<MemHost, Fail> {
+    Ok(MemHost::new(alloc, calls)?)
+}
+
+// A host whose first call fails.
+#[test]
+fn a_failing_host_is_told(rt: HostRuntime) -> Result<(), Fail> {
+    let mut files = failing_host(rt.alloc(), &[1])?;
+    let (status, out) = outcome(rt.alloc(), &mut files, b"generate 1 1 a.dat", &[], &[])?;
+    assert_eq!(rt; status, Status::Done);
+    assert_eq!(rt; out.as_slice(), b"refused host-fault\n".as_slice());
+    Ok(())
+}
+
+// Words of the command line that no run takes.
+fn quick(alloc: Global) -> Result<Words, Fail> {
+    let mut words = Words::new(alloc);
+    words.push("--quick")?;
+    Ok(words)
+}
+
+#[test]
+fn words_are_refused(rt: HostRuntime) -> Result<(), Fail> {
+    let mut files = MemHost::new(rt.alloc(), &[])?;
+    let words = quick(rt.alloc())?;
+    let source = MemSource::new(rt.alloc(), &[], &[])?;
+    let sink = MemSink::new(rt.alloc(), &[])?;
+    let (status, _) = outcome_of(rt.alloc(), &words, &mut files, source, sink);
+    assert_eq!(rt; status, Status::Usage);
     Ok(())
 }

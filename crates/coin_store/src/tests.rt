@@ -1,3 +1,7 @@
+ghost use Rattle.std.specs.Prelude.{◌≡◌, ◌≤◌, length, IfOk};
+ghost use Rattle.coin_codec.specs.CoinText.{coin_text, CoinFits};
+ghost use Rattle.coin_store.specs.Batches.{marker_text};
+
 use crate::{CoinStore, Marker};
 use base_types::{Coin, Hash32, Limits, OutPoint, Salt, Script, StoreFault, View};
 use disk_model::{Disk, Image, MemDisk};
@@ -155,9 +159,7 @@ fn a_broken_form_is_damage_at_its_gate(rt: HostRuntime) -> Result<(), Fail> {
         };
         assert_eq!(rt; found, want);
     }
-    let Some((_, cut_short)) = bytes.split_last() else {
-        return Ok(());
-    };
+    let (_, cut_short) = bytes.split_last().expect(&rt, "bytes");
     let mut cut = Image::new(rt.alloc());
     cut.put(3, cut_short)?;
     let mut disk = MemDisk::from_image(rt.alloc(), &cut)?;
@@ -190,12 +192,8 @@ fn a_view_reads_the_disk_that_it_is_given(rt: HostRuntime) -> Result<(), Fail> {
         let mut other = MemDisk::from_image(rt.alloc(), &copy)?;
         assert_eq!(rt; value(&store, &mut other), want);
     }
-    let Some((_, cut_short)) = bytes.split_last() else {
-        return Ok(());
-    };
-    let Some((_, cut_short)) = cut_short.split_last() else {
-        return Ok(());
-    };
+    let (_, cut_short) = bytes.split_last().expect(&rt, "bytes");
+    let (_, cut_short) = cut_short.split_last().expect(&rt, "bytes");
     let mut short = Image::new(rt.alloc());
     short.put(3, cut_short)?;
     let mut other = MemDisk::from_image(rt.alloc(), &short)?;
@@ -258,5 +256,154 @@ fn keys_go_by_their_texts(rt: HostRuntime) -> Result<(), Fail> {
         },
     ];
     assert!(rt; keys.as_slice() == want.as_slice());
+    Ok(())
+}
+
+const OTHER: Hash32 = Hash32 { bytes: [0x33; 32] };
+
+/// The coin whose text is 03320751.
+fn the_coin(alloc: Global) -> Result<Coin, Fail>
+    ensures { IfOk result (λ coin. CoinFits coin × (length (coin_text coin) ≡ 4)) }
+{
+    Ok(Coin {
+        value: 5_000_000_000,
+        script: Script::from_slice(alloc, &[0x51])?,
+        height: 1,
+        coinbase: true,
+    })
+}
+
+// A hash has 32 bytes, of which the language speaks where it is passed by value.
+fn has_32_bytes(hash: Hash32)
+    ensures { length hash.bytes ≡ 32 }
+{
+    let _hash = hash;
+}
+
+// The length of a marker's text.
+#[tactic(auto, unfolding(crate::specs::Batches::marker_text))]
+fn is_short(marker: &Marker)
+    ensures { length (marker_text marker.now) ≤ 65 }
+{
+    match marker {
+        Marker::At { tip } => has_32_bytes(*tip),
+        Marker::Between { new_tip, old_tip } => {
+            has_32_bytes(*new_tip);
+            has_32_bytes(*old_tip);
+        }
+    }
+}
+
+/// Flushes a payload with a row of the first outpoint, and at a marker between two tips one more, which takes the coin
+/// away again.
+fn flush<D: Disk>(
+    store: &mut CoinStore,
+    disk: &mut D,
+    coin: &Coin,
+    marker: &Marker,
+) -> Result<(), StoreFault>
+    requires fits { CoinFits coin.now }
+    requires few { length (coin_text coin.now) ≡ 4 }
+{
+    is_short(marker);
+    store.prepare(&[FIRST], 200, 500)?;
+    store.stage(&FIRST, Some(coin));
+    store.apply(disk, marker)?;
+    if let Marker::Between { .. } = marker {
+        store.stage(&FIRST, None);
+        store.apply(disk, marker)?;
+    }
+    Ok(())
+}
+
+/// A marker between two tips, and a row of the first outpoint with these bytes.
+fn between_row(alloc: Global, value: &[u8]) -> Result<Vec<u8>, Fail> {
+    let mut payload = Vec::from_slice(alloc, &[0x48])?;
+    payload.extend_from_slice(&[0x33; 32])?;
+    let at = one_row(alloc, value)?;
+    let (_, rest) = at.split_first().unwrap_or((&0, &[]));
+    payload.extend_from_slice(rest)?;
+    Ok(payload)
+}
+
+#[test]
+fn a_flush_appends_its_payloads(rt: HostRuntime) -> Result<(), Fail> {
+    let coin = the_coin(rt.alloc())?;
+    let at = Marker::At { tip: TIP };
+    let between = Marker::Between {
+        new_tip: OTHER,
+        old_tip: TIP,
+    };
+    let keys: [([u8; 8], [u8; 4]); 2] = [
+        (NO_KEY, [0x03, 0x32, 0x07, 0x51]),
+        ([1, 2, 3, 4, 5, 6, 7, 8], [0x02, 0x30, 0x04, 0x55]),
+    ];
+    for (key, value_bytes) in keys {
+        let first = one_row(rt.alloc(), &value_bytes)?;
+        let second = between_row(rt.alloc(), &value_bytes)?;
+        let third = between_row(rt.alloc(), &[])?;
+        let steps: [(Marker, &[&[u8]], Option<u64>); 3] = [
+            (at, &[&first], Some(5_000_000_000)),
+            (between, &[&first, &second, &third], None),
+            (at, &[&first, &second, &third, &first], Some(5_000_000_000)),
+        ];
+        let mut disk = MemDisk::new(rt.alloc());
+        let mut store = open(rt.alloc(), &mut disk, key)?;
+        for (marker, payloads, want) in steps {
+            flush(&mut store, &mut disk, &coin, &marker)?;
+            let image = disk.image()?;
+            let want_image = image_of(rt.alloc(), payloads)?;
+            assert_eq!(rt;
+                image.get(3).unwrap_or(&[]),
+                want_image.get(3).unwrap_or(&[])
+            );
+            assert_eq!(rt; value(&store, &mut disk), Ok(want));
+            assert_eq!(rt; store.marker(), marker);
+            let again = open(rt.alloc(), &mut disk, key)?;
+            assert_eq!(rt; value(&again, &mut disk), Ok(want));
+            assert_eq!(rt; again.marker(), marker);
+        }
+    }
+    Ok(())
+}
+
+#[test]
+fn a_failed_flush_leaves_the_store(rt: HostRuntime) -> Result<(), Fail> {
+    let coin = the_coin(rt.alloc())?;
+    let at = Marker::At { tip: TIP };
+    let start = Marker::At { tip: START };
+    for call in 1..=4 {
+        let mut disk = MemDisk::new(rt.alloc());
+        let mut store = open(rt.alloc(), &mut disk, NO_KEY)?;
+        assert_eq!(rt;
+            store.prepare(&[FIRST], 200, 4096),
+            Err(StoreFault::Full { file: 3 })
+        );
+        let before = disk.calls().len() as u64;
+        disk.fail_at(&[before.min(1000) + call])?;
+        assert_eq!(rt;
+            flush(&mut store, &mut disk, &coin, &at),
+            Err(StoreFault::DiskFailed)
+        );
+        assert_eq!(rt; store.marker(), start);
+        assert_eq!(rt; value(&store, &mut disk), Ok(None));
+        flush(&mut store, &mut disk, &coin, &at)?;
+        assert_eq!(rt; store.marker(), at);
+        assert_eq!(rt; value(&store, &mut disk), Ok(Some(5_000_000_000)));
+    }
+    Ok(())
+}
+
+#[test]
+fn room_that_no_coin_took_is_given_back(rt: HostRuntime) -> Result<(), Fail> {
+    let mut disk = MemDisk::new(rt.alloc());
+    let mut store = open(rt.alloc(), &mut disk, NO_KEY)?;
+    let coin = the_coin(rt.alloc())?;
+    flush(&mut store, &mut disk, &coin, &Marker::At { tip: TIP })?;
+    for index in 1..9 {
+        store.prepare(&[OutPoint { index, ..FIRST }], 200, 500)?;
+    }
+    assert_eq!(rt; value(&store, &mut disk), Ok(Some(5_000_000_000)));
+    assert_eq!(rt; store.keys(rt.alloc())?.as_slice(), [FIRST].as_slice());
     Ok(())
 }

@@ -14,6 +14,8 @@ use std::time::Instant;
 /// The file of the host that holds the blocks.
 const NAME: &str = "blocks.dat";
 
+const SALT: Salt = Salt { a: 0, b: 0 };
+
 const LIMITS: Limits = Limits {
     file_bytes: 68_719_476_736,
     headers: 4_194_304,
@@ -44,42 +46,61 @@ fn hashed(alloc: Global, block: &Block) -> Result<u8> {
     Ok(root_in_place(hashes).hash.bytes[0] ^ block_hash(&block.header).bytes[0])
 }
 
-/// Prints how many blocks and bytes a generated chain of so many blocks has, how long its double hashes take, and how long
-/// folding it does.
-pub fn measure(rt: &HostRuntime, count: u32) -> Result<()> {
+// Folds the file as the program does.
+fn fold(
+    alloc: Global,
+    words: &Words,
+    host: &mut MemHost,
+    input: &mut MemSource,
+    out: &mut MemSink,
+) {
+    run(alloc, words, host, input, out, &SALT, &LIMITS);
+}
+
+// The file with a chain of so many blocks.
+fn generated(alloc: Global, count: u32) -> Result<MemHost> {
     if count == 0 || count > 100_000 {
         bail!("from 1 to 100000 blocks");
     }
-    let mut host = MemHost::new(rt.alloc(), &[])?;
-    if generate(rt.alloc(), &mut host, NAME, 7, count).is_err() {
+    let mut host = MemHost::new(alloc, &[])?;
+    if generate(alloc, &mut host, NAME, 7, count).is_err() {
         bail!("no chain was generated");
     }
-    let bytes = host.get(NAME).map_or(0, <[u8]>::len);
-    let blocks = blocks(rt.alloc(), &mut host)?;
+    Ok(host)
+}
+
+// How many microseconds the double hashes of these blocks take, and a byte of them.
+fn hashing(rt: &HostRuntime, blocks: &[Block]) -> Result<(u128, u8)> {
     let start = Instant::now(rt)?;
     let mut sum = 0u8;
-    for block in &blocks {
+    for block in blocks {
         sum ^= hashed(rt.alloc(), block)?;
     }
-    let hashing = start.elapsed(rt)?.as_micros();
+    Ok((start.elapsed(rt)?.as_micros(), sum))
+}
+
+// How many microseconds a fold of the file takes.
+fn folding(rt: &HostRuntime, host: &mut MemHost) -> Result<u128> {
+    let words = Words::new(rt.alloc());
     let mut input = MemSource::new(rt.alloc(), b"fold blocks.dat\n", &[])?;
     let mut out = MemSink::new(rt.alloc(), &[])?;
-    let words = Words::new(rt.alloc());
-    let salt = Salt { a: 0, b: 0 };
     let start = Instant::now(rt)?;
-    run(
-        rt.alloc(),
-        &words,
-        &mut host,
-        &mut input,
-        &mut out,
-        &salt,
-        &LIMITS,
-    );
+    fold(rt.alloc(), &words, host, &mut input, &mut out);
     let folding = start.elapsed(rt)?.as_micros();
     if !out.as_slice().starts_with(b"folded ") {
         bail!("the chain isn't folded");
     }
+    Ok(folding)
+}
+
+/// Prints how many blocks and bytes a generated chain of so many blocks has, how long its double hashes take, and how long
+/// folding it does.
+pub fn measure(rt: &HostRuntime, count: u32) -> Result<()> {
+    let mut host = generated(rt.alloc(), count)?;
+    let bytes = host.get(NAME).map_or(0, <[u8]>::len);
+    let blocks = blocks(rt.alloc(), &mut host)?;
+    let (hashing, sum) = hashing(rt, &blocks)?;
+    let folding = folding(rt, &mut host)?;
     println!(rt; "{count} {hashing} {folding} {bytes} {sum}")?;
     Ok(())
 }

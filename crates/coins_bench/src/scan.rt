@@ -43,8 +43,8 @@ fn scan(rt: &HostRuntime, host: &mut MemHost) -> Result<()> {
     }
 }
 
-/// Prints how long reading a file of so many heads takes, each of which claims so many bytes, and how long scanning it does.
-pub fn measure(rt: &HostRuntime, count: u32, claim: u32) -> Result<()> {
+// A file of so many heads, each of which claims so many bytes.
+fn heads(rt: &HostRuntime, count: u32, claim: u32) -> Result<MemHost> {
     let mut bytes = Vec::new(rt.alloc());
     for _ in 0..count {
         bytes.extend_from_slice(&MAGIC)?;
@@ -52,6 +52,12 @@ pub fn measure(rt: &HostRuntime, count: u32, claim: u32) -> Result<()> {
     }
     let mut host = MemHost::new(rt.alloc(), &[])?;
     host.put(NAME, &bytes)?;
+    Ok(host)
+}
+
+/// Prints how long reading a file of so many heads takes, each of which claims so many bytes, and how long scanning it does.
+pub fn measure(rt: &HostRuntime, count: u32, claim: u32) -> Result<()> {
+    let mut host = heads(rt, count, claim)?;
     let start = Instant::now(rt)?;
     let taken = read(rt, &mut host)?;
     let reading = start.elapsed(rt)?.as_micros();

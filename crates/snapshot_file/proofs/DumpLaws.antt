@@ -1,25 +1,24 @@
 -- The laws of a dump.
-use Rattle.std.specs.Prelude.{◌≡◌, ℕ, ◌^◌, ◌<◌, Bool, true, false, T, List, [], ◌∷◌, ◌++◌, length, map, bytes_eq, None, refl}
+use Rattle.std.specs.Prelude.{◌≡◌, ℕ, T, List, [], ◌∷◌, ◌++◌, length, map, bytes_eq, None, refl}
 use Rattle.std.proofs.Common.{sym, ap, subst, ◌∙◌, arith, inl, inr}
 use Rattle.std.specs.List.{flat_map, AllByRecursion}
 use Rattle.std.specs.declared.cmp.Ordering.{Ordering}
 use Rattle.std.specs.declared.cmp.Ordering.TheVariants.{Less, Equal, Greater}
 use Rattle.std.specs.Ordering.{nat_cmp}
-use Rattle.std.specs.Cmp.{IsTotalOrder}
 use Rattle.std.specs.Cmp.Lexicographic.{slice_cmp, nat_list_cmp_total}
-use Rattle.std.specs.FinMap.{FinMap, IsAntisymmetric, nat_cmp-IsAntisymmetric, slice_cmp-IsAntisymmetric, empty, entries, entries_sorted, entries-insert, len-entries, len-empty, from_entries, find, put, is_sorted, get-from_entries, get-entries}
+use Rattle.std.specs.FinMap.{IsAntisymmetric, nat_cmp-IsAntisymmetric, slice_cmp-IsAntisymmetric, empty, entries, entries_sorted, entries-insert, len-entries, len-empty, from_entries, find, put, is_sorted, get-from_entries, get-entries}
 use Rattle.std.specs.FinMap.Entries.{by_order, same_entries}
 use Rattle.std.proofs.lemmas.Bool.{cases_Bool}
-use Rattle.std.proofs.lemmas.List.Concat.{flat_map-cons}
 use Rattle.std.proofs.lemmas.Slice.Eq.{bytes_eq-Decides}
 use Rattle.base_types.specs.Coins.{Coins}
 use Rattle.base_types.specs.declared.hash.Hash32.{Hash32}
 use Rattle.base_types.specs.declared.hash.OutPoint.{OutPoint}
 use Rattle.base_types.specs.declared.coin.Coin.{Coin}
 use Rattle.coin_codec.specs.KeyText.{key_text}
-use Rattle.snapshot_file.specs.Text.{Group, head_text, group_head_text, group_text, member_text, entry_of, coins_of, MemberFits, GroupFits, IsSnapshot}
-use Rattle.snapshot_file.specs.Dump.{keyed, by_key, dump_coins, alone, put_first, groups_of, dump_groups, dump_text, EntryFits, InKeyOrder, SameCoins, IsDump}
+use Rattle.snapshot_file.specs.Text.{Group, head_text, group_head_text, group_text, member_text, entry_of, coins_of, GroupFits}
+use Rattle.snapshot_file.specs.Dump.{keyed, by_key, dump_coins, alone, put_first, groups_of, dump_groups, dump_text, EntryFits, HasWholeTxid, InKeyOrder, SameCoins, IsDump}
 use Rattle.snapshot_file.proofs.WholeFiles.{coins_cons}
+use Rattle.snapshot_file.proofs.GroupLaws.{groups_some, groups_rise, groups_again}
 
 abbrev Row : Type 0
 Row = List ℕ × (OutPoint × Coin)
@@ -140,6 +139,10 @@ is_dump base coins = record {
   ordered = dump_ordered coins;
   same = dump_same coins;
   only = dump_only coins;
+  grouped = groups_coins (dump_coins coins);
+  members = groups_some (dump_coins coins);
+  rising = λ whole. groups_rise (dump_coins coins) (dump_ordered coins) (dump_keeps HasWholeTxid coins whole);
+  only_groups = λ others some rise are. sym (groups_again others some rise) ∙ ap groups_of are;
   snapshot = λ base_fits count_fits all. record {
     groups = dump_groups coins;
     fits = groups_fit (dump_coins coins) (dump_keeps EntryFits coins all);

@@ -1,29 +1,28 @@
 -- What feeding a piece does to what a reader was fed.
-use Rattle.std.specs.Prelude.{◌≡◌, ◌⊎◌, ℕ, zero, suc, ◌+◌, ◌-◌, ◌<◌, ◌≤◌, Bool, true, false, not, List, [], ◌∷◌, ◌++◌, length, take, drop, get_or, Option, Some, None, option_map, is_some, Result, Ok, Err, refl}
-use Rattle.std.proofs.Common.{cond, eqb, sym, ap, subst, ◌∙◌, append_assoc, arith, inl, inr}
+use Rattle.std.specs.Prelude.{◌≡◌, ℕ, zero, suc, ◌+◌, ◌<◌, true, List, [], ◌∷◌, ◌++◌, length, take, drop, Option, Some, None, Result, Ok, Err, refl}
+use Rattle.std.proofs.Common.{sym, ap, subst, ◌∙◌, append_assoc, arith}
 use Rattle.std.proofs.lemmas.Bool.{both_ways}
-use Rattle.std.proofs.lemmas.List.{length-append, length-take, length-drop, take-append-drop, append-nil, get_or_append_left}
+use Rattle.std.proofs.lemmas.List.{length-append, take-append-drop, append-nil}
 use Rattle.base_types.specs.Reading.{Input, place}
 use Rattle.base_types.specs.Codec.{IsBytes, IsBytes-take, IsBytes-drop, at}
 use Rattle.base_types.specs.declared.hash.Hash32.{Hash32}
 use Rattle.base_types.specs.declared.snapshot_error.SnapError.{SnapError}
 use Rattle.snapshot_file.specs.Items.{Wrong, Stop, from_first, head_at}
-use Rattle.snapshot_file.specs.Part.{Found, nothing, Part, no_group, read_coins, behind_head, read_part}
-use Rattle.snapshot_file.specs.Steps.{read_from, after, item_len, Waits, Goes, Breaks, Stops, HeadWhole, HeadWaits}
-use Rattle.snapshot_file.specs.Fed.{bytes_fed, failed, failed_at, BehindHead, BrokenBody, WithinHead, StandsAt, HasFed, newly, Became, is_empty, begun, Moved, MoveStep, Taken, Broke, TakeStep}
+use Rattle.snapshot_file.specs.Part.{Found, Part, no_group, read_coins, behind_head, read_part}
+use Rattle.snapshot_file.specs.Steps.{read_from, after, item_len, Waits, Goes, Breaks, HeadWhole, HeadWaits}
+use Rattle.snapshot_file.specs.Fed.{bytes_fed, failed_at, BehindHead, BrokenBody, StandsAt, HasFed, Became, is_empty, begun, Moved, MoveStep, Taken, Broke, TakeStep}
 use Rattle.snapshot_file.specs.declared.coins.SnapCoin.{SnapCoin}
 use Rattle.snapshot_file.specs.declared.fault.SnapFault.{SnapFault}
 use Rattle.snapshot_file.specs.declared.fault.SnapFault.TheVariants.{NoMemory, Bad}
 use Rattle.snapshot_file.specs.declared.head.SnapHead.{SnapHead}
 use Rattle.snapshot_file.specs.declared.standing.Standing.{Standing}
 use Rattle.snapshot_file.specs.declared.reader.Stage.{Stage}
-use Rattle.snapshot_file.specs.declared.reader.Stage.TheVariants.{Head, Coins, Failed}
+use Rattle.snapshot_file.specs.declared.reader.Stage.TheVariants.{Head}
 use Rattle.snapshot_file.specs.declared.reader.Pieces.{Pieces}
 use Rattle.snapshot_file.specs.declared.reader.Reader.{Reader}
 use Rattle.snapshot_file.proofs.Growing.{more, Grows}
 use Rattle.snapshot_file.proofs.ItemsGrow.{stays, head_grows}
-use Rattle.snapshot_file.proofs.HeadLaws.{head_decided}
-use Rattle.snapshot_file.proofs.Steps.{waits_nothing, empty_waits, grown_err}
+use Rattle.snapshot_file.proofs.Steps.{waits_nothing, empty_waits}
 
 -- ---- parts by their metadata
 

@@ -1,10 +1,10 @@
 -- What was read of bytes is read of more bytes, and so is a fault that isn't that they end.
-use Rattle.std.specs.Prelude.{◌≡◌, ℕ, ◌+◌, ◌-◌, ◌*◌, ◌^◌, ◌<◌, ◌≤◌, Bool, true, false, List, [], ◌∷◌, ◌++◌, length, take, drop, Option, Some, None, is_some, Result, Ok, Err, refl}
-use Rattle.std.proofs.Common.{cond, ltb, eqb, sym, ap, subst, ◌∙◌, arith, inl, inr}
-use Rattle.std.specs.Int.{Width, w16, w32, w64, byte_len, from_le_bytes}
+use Rattle.std.specs.Prelude.{◌≡◌, ℕ, ◌+◌, ◌-◌, ◌*◌, ◌^◌, ◌≤◌, Bool, true, false, List, [], ◌∷◌, ◌++◌, length, Result, Ok, Err, refl}
+use Rattle.std.proofs.Common.{ltb, eqb, ap, arith, inl, inr}
+use Rattle.std.specs.Int.{Width, w16, w32, w64, byte_len}
 use Rattle.std.proofs.lemmas.Bool.{cases_Bool, both_ways, ltb-false, le-ltb}
 use Rattle.std.proofs.lemmas.List.{take-append-le, drop-append-le, length-append}
-use Rattle.base_types.specs.Reading.{Input, place, ◌>>=◌, on_rest, bytes_at, number_at, long_at, compact_at, length_at, groups_at, varint_at}
+use Rattle.base_types.specs.Reading.{Input, place, ◌>>=◌, bytes_at, number_at, long_at, compact_at, length_at, groups_at, varint_at}
 use Rattle.base_types.specs.Codec.{Reader, at, field, renamed}
 use Rattle.base_types.specs.declared.cursor.ReadError.{ReadError}
 use Rattle.base_types.specs.declared.cursor.ReadError.TheVariants.{Short, LongSpelling, TooLarge}

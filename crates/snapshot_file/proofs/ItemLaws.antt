@@ -1,14 +1,13 @@
 -- What is read of an item is so spelled, and what is so spelled is read, whatever follows.
-use Rattle.std.specs.Prelude.{◌≡◌, ℕ, ◌+◌, ◌-◌, ◌^◌, ◌<◌, ◌≤◌, ◌==◌, Bool, true, false, List, [], ◌∷◌, ◌++◌, length, drop, Option, Some, None, Result, Ok, Err, refl}
+use Rattle.std.specs.Prelude.{◌≡◌, ℕ, ◌^◌, ◌<◌, ◌≤◌, true, false, List, [], ◌∷◌, ◌++◌, length, drop, Option, Some, Result, Ok, Err, refl}
 use Rattle.std.proofs.Common.{cond, ltb, eqb, sym, ap, subst, ◌∙◌, append_assoc, arith, inl, inr}
 use Rattle.std.specs.Int.{w64}
-use Rattle.std.proofs.lemmas.Bool.{cases_Bool, ltb-false, le-ltb, eqb-true, eqb-false, eq-eqb, ne_eqb}
+use Rattle.std.proofs.lemmas.Bool.{ltb-false, le-ltb, eqb-true, eqb-false, eq-eqb, ne_eqb}
 use Rattle.std.proofs.lemmas.List.{length-append, drop_at}
 use Rattle.base_types.specs.Bytes.{compact, number_text}
-use Rattle.base_types.specs.Reading.{Input, place, ◌>>=◌, bytes_at, number_at, compact_at, length_at}
-use Rattle.base_types.specs.Codec.{Reader, IsBytes, IsBytes-rest, Takes, Takes-then, IsField, IsCodec, at, field, renamed, field_codec, step, bind_ok, chosen, guard_ok, ok_is}
+use Rattle.base_types.specs.Reading.{Input, place, bytes_at, number_at, compact_at, length_at}
+use Rattle.base_types.specs.Codec.{Reader, IsBytes, IsBytes-rest, Takes, Takes-then, IsCodec, at, field, renamed, field_codec, step, chosen, guard_ok, ok_is}
 use Rattle.base_types.specs.Fields.{compact_field, length_field, bytes_field, number_field, wide64}
-use Rattle.base_types.specs.declared.cursor.ReadError.{ReadError}
 use Rattle.base_types.specs.declared.hash.Hash32.{Hash32}
 use Rattle.base_types.specs.declared.coin.Coin.{Coin}
 use Rattle.base_types.specs.declared.refused.CoinError.{CoinError}

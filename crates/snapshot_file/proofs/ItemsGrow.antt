@@ -1,22 +1,16 @@
 -- What was read of an item's bytes is read of more bytes, and so is its fault.
-use Rattle.std.specs.Prelude.{◌≡◌, ℕ, ◌+◌, ◌-◌, ◌/◌, ◌%◌, ◌==◌, Bool, true, false, List, [], ◌∷◌, ◌++◌, length, Option, Some, None, is_some, Result, Ok, Err, refl}
-use Rattle.std.proofs.Common.{cond, ltb, eqb, sym, ap, subst, ◌∙◌, arith, inl, inr}
+use Rattle.std.specs.Prelude.{ℕ, ◌-◌, Bool, List, [], ◌∷◌, Option, is_some, Result, Ok, Err, refl}
+use Rattle.std.proofs.Common.{ltb, eqb, ap, inl, inr}
 use Rattle.std.specs.Int.{w64}
 use Rattle.std.proofs.lemmas.Bool.{cases_Bool}
-use Rattle.base_types.specs.Reading.{Input, place, ◌>>=◌, bytes_at, number_at, compact_at, length_at, varint_at}
-use Rattle.base_types.specs.Codec.{Reader, at, field, renamed}
-use Rattle.base_types.specs.declared.cursor.ReadError.{ReadError}
-use Rattle.base_types.specs.declared.cursor.ReadError.TheVariants as read
-use Rattle.base_types.specs.declared.hash.Hash32.{Hash32}
-use Rattle.base_types.specs.declared.coin.Coin.{Coin}
+use Rattle.base_types.specs.Reading.{Input, place, bytes_at, number_at, compact_at, length_at, varint_at}
+use Rattle.base_types.specs.Codec.{at, field, renamed}
 use Rattle.base_types.specs.declared.refused.CoinError.{CoinError}
-use Rattle.base_types.specs.declared.refused.CoinError.TheVariants.{Short, HeightTooLarge, BadAmount, UncompressedKey, ScriptTooLong, SecondSpelling}
-use Rattle.coin_codec.specs.Amount.{amount_of}
-use Rattle.coin_codec.specs.ScriptForm.{script_of, kept_len, short_form}
+use Rattle.base_types.specs.declared.refused.CoinError.TheVariants.{HeightTooLarge, BadAmount, UncompressedKey, ScriptTooLong}
+use Rattle.coin_codec.specs.ScriptForm.{kept_len, short_form}
 use Rattle.coin_codec.specs.Reading.{named, too_few, tested_at, is_u32, is_amount_code, is_script_code, amount_at, kept_at, raw_at, script_at, coin_at}
 use Rattle.snapshot_file.specs.Text.{magic, version, network}
-use Rattle.snapshot_file.specs.Items.{Wrong, Stop, from_first, as_stop, coin_stop, mark_at, head_at, group_at, is_above, member_at}
-use Rattle.snapshot_file.specs.declared.head.SnapHead.{SnapHead}
+use Rattle.snapshot_file.specs.Items.{Wrong, Stop, as_stop, coin_stop, mark_at, head_at, group_at, is_above, member_at}
 use Rattle.snapshot_file.proofs.Growing.{more, place-more, Grows, ReaderGrows, grows_then, varint_grows, bytes_grows, number_grows, compact_grows, length_grows, IsSteady, field_grows}
 
 -- ---- coins

@@ -3,6 +3,7 @@ pub mod Completing
 pub mod DumpLaws
 pub mod Ending
 pub mod Feeding
+pub mod GroupLaws
 pub mod Growing
 pub mod Growth
 pub mod HeadLaws

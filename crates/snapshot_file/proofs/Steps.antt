@@ -1,26 +1,24 @@
 -- Steps of a reader from item to item.
-use Rattle.std.specs.Prelude.{◌≡◌, ◌⊎◌, ℕ, zero, suc, ◌+◌, ◌-◌, ◌*◌, ◌<◌, ◌≤◌, Bool, true, false, List, [], ◌∷◌, ◌++◌, length, take, drop, Option, Some, None, Result, Ok, Err, refl}
+use Rattle.std.specs.Prelude.{◌≡◌, ℕ, zero, suc, ◌+◌, ◌-◌, ◌*◌, ◌<◌, ◌≤◌, List, [], ◌∷◌, ◌++◌, length, take, drop, Option, Some, None, Result, Ok, Err, refl}
 use Rattle.std.proofs.Common.{cond, eqb, sym, ap, subst, ◌∙◌, append_assoc, arith, inl, inr}
 use Rattle.std.proofs.lemmas.Bool.{cases_lt, cases_Bool, ne_eqb}
-use Rattle.std.proofs.lemmas.List.{length-append, length-drop, length-take, take-append-drop, take-append-le, take_at, append-nil}
+use Rattle.std.proofs.lemmas.List.{length-append, length-drop, take-append-drop, take-append-le, take_at, append-nil}
 use Rattle.base_types.specs.Reading.{Input, place, compact_at, length_at}
 use Rattle.base_types.specs.Codec.{Reader, IsBytes, IsCodec, at, ok_is}
 use Rattle.base_types.specs.declared.hash.Hash32.{Hash32}
 use Rattle.base_types.specs.declared.coin.Coin.{Coin}
 use Rattle.base_types.specs.declared.snapshot_error.SnapError.{SnapError}
-use Rattle.base_types.specs.declared.snapshot_error.SnapError.TheVariants.{LeftOver}
-use Rattle.snapshot_file.specs.Text.{MemberFits}
 use Rattle.snapshot_file.specs.Items.{Wrong, Stop, from_first, group_at, member_at}
-use Rattle.snapshot_file.specs.Part.{Found, nothing, met, also, placed, read_member, read_coins}
+use Rattle.snapshot_file.specs.Part.{Found, nothing, placed, read_member, read_coins}
 use Rattle.snapshot_file.specs.ItemReading.{Fails, IsEnd}
-use Rattle.snapshot_file.specs.Steps.{read_from, after, len_of, item_len, next_len, Waits, Goes, Breaks, rank, TookItem, BrokeItem, Stayed, ItemStep}
+use Rattle.snapshot_file.specs.Steps.{read_from, after, len_of, item_len, next_len, Goes, Breaks, TookItem, ItemStep}
 use Rattle.snapshot_file.specs.declared.coins.SnapCoin.{SnapCoin}
 use Rattle.snapshot_file.specs.declared.item_fault.ItemFault.{ItemFault}
 use Rattle.snapshot_file.specs.declared.item_fault.ItemFault.TheVariants.{Unfinished, NoMemory, Bad}
 use Rattle.snapshot_file.specs.declared.standing.Standing.{Standing}
 use Rattle.snapshot_file.proofs.Growing.{more, Grows, ReaderGrows}
 use Rattle.snapshot_file.proofs.ItemsGrow.{stays, group_grows, member_grows}
-use Rattle.snapshot_file.proofs.ItemLaws.{Front, front, GroupHeadFits, group_codec, member_codec, PassesAt}
+use Rattle.snapshot_file.proofs.ItemLaws.{front, group_codec, member_codec}
 use Rattle.snapshot_file.proofs.Within.{Within, stop_offset, group_within, member_within}
 
 -- ---- more bytes behind an item

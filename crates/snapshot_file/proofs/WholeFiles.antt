@@ -1,22 +1,22 @@
 -- A file is a snapshot exactly where it is read to its last coin, with no fault.
-use Rattle.std.specs.Prelude.{◌≡◌, ◌↔◌, ℕ, zero, suc, ◌+◌, ◌-◌, ◌^◌, ◌<◌, ◌≤◌, Bool, true, false, List, [], ◌∷◌, ◌++◌, length, map, drop, Option, Some, None, option_map, Result, Ok, Err, refl}
+use Rattle.std.specs.Prelude.{◌≡◌, ℕ, zero, suc, ◌+◌, ◌-◌, ◌^◌, ◌<◌, ◌≤◌, false, List, [], ◌∷◌, ◌++◌, length, map, Option, Some, None, Result, Ok, Err, refl}
 use Rattle.std.proofs.Common.{sym, ap, subst, ◌∙◌, append_assoc, arith}
 use Rattle.std.specs.List.{flat_map, AllByRecursion}
-use Rattle.std.proofs.lemmas.List.{length-append, map-append, length-map, append-nil}
+use Rattle.std.proofs.lemmas.List.{length-append, length-map}
 use Rattle.std.proofs.lemmas.List.Concat.{flat_map-cons}
 use Rattle.base_types.specs.Reading.{Input, place}
-use Rattle.base_types.specs.Codec.{Reader, IsBytes, IsCodec, at, ok_is}
+use Rattle.base_types.specs.Codec.{Reader, IsBytes, IsCodec, at}
 use Rattle.base_types.specs.declared.hash.Hash32.{Hash32}
 use Rattle.base_types.specs.declared.hash.OutPoint.{OutPoint}
 use Rattle.base_types.specs.declared.coin.Coin.{Coin}
 use Rattle.snapshot_file.specs.Text.{head_text, group_head_text, member_text, Group, group_text, entry_of, coins_of, MemberFits, GroupFits, IsSnapshot}
-use Rattle.snapshot_file.specs.Items.{Wrong, Stop, from_first, head_at, group_at, is_above, member_at}
+use Rattle.snapshot_file.specs.Items.{Stop, from_first, head_at, group_at, is_above}
 use Rattle.snapshot_file.specs.Part.{Found, met, also, placed, read_member, read_coins, Part, no_group, read_part}
 use Rattle.snapshot_file.specs.Fed.{entry, IsAll, NoneAbove, IsWholeFile}
 use Rattle.snapshot_file.specs.declared.coins.SnapCoin.{SnapCoin}
 use Rattle.snapshot_file.specs.declared.head.SnapHead.{SnapHead}
-use Rattle.snapshot_file.proofs.ItemLaws.{Front, front, head_len, HeadFits, head_codec, GroupHeadFits, group_codec, PassesAt, member_codec}
-use Rattle.snapshot_file.proofs.Feeding.{headed, part_of, part_none}
+use Rattle.snapshot_file.proofs.ItemLaws.{front, head_len, HeadFits, head_codec, GroupHeadFits, group_codec, member_codec}
+use Rattle.snapshot_file.proofs.Feeding.{part_of, part_none}
 
 -- the text of what is left: the members of the group that was begun, and further groups
 abbrev left_text : List (ℕ × Coin) → List Group → List ℕ

@@ -1,6 +1,6 @@
 -- No fault's offset lies behind the bytes.
-use Rattle.std.specs.Prelude.{◌≡◌, ℕ, ◌+◌, ◌-◌, ◌≤◌, Bool, true, false, List, length, Option, Some, None, is_some, Result, Ok, Err, refl}
-use Rattle.std.proofs.Common.{cond, ltb, eqb, ◌∙◌, arith, inl, inr}
+use Rattle.std.specs.Prelude.{◌≡◌, ℕ, ◌-◌, ◌≤◌, Bool, List, Option, Some, None, is_some, Result, Ok, Err, refl}
+use Rattle.std.proofs.Common.{ltb, eqb, ◌∙◌, arith, inl, inr}
 use Rattle.std.proofs.lemmas.Bool.{cases_Bool}
 use Rattle.base_types.specs.Reading.{Input, place, ◌>>=◌, bytes_at, compact_at, length_at, varint_at}
 use Rattle.base_types.specs.Codec.{Reader, at, field, renamed}
@@ -10,7 +10,7 @@ use Rattle.base_types.specs.declared.refused.CoinError.{CoinError}
 use Rattle.base_types.specs.declared.refused.CoinError.TheVariants.{Short, HeightTooLarge, BadAmount, UncompressedKey, ScriptTooLong, SecondSpelling}
 use Rattle.coin_codec.specs.ScriptForm.{kept_len, short_form}
 use Rattle.coin_codec.specs.Reading.{named, too_few, tested_at, is_u32, is_amount_code, is_script_code, amount_at, kept_at, raw_at, script_at, coin_at}
-use Rattle.snapshot_file.specs.Items.{Wrong, Stop, as_stop, coin_stop, group_at, is_above, member_at}
+use Rattle.snapshot_file.specs.Items.{Stop, as_stop, coin_stop, group_at, is_above, member_at}
 
 abbrev pub Within : {E X : Type 0} → (E → ℕ) → ℕ → Result (X × Input) E → Type 0
 Within offset end (Ok p) = p.1.end ≡ end

@@ -1,16 +1,18 @@
 -- The one snapshot of coins that a dump writes: a group for each transaction, and all coins in the order of their keys.
 use Rattle.std.specs.Prelude.{◌≡◌, ℕ, ◌^◌, ◌<◌, ◌≤◌, T, List, [], ◌∷◌, ◌++◌, length, map, if◌then◌else◌, bytes_eq}
 use Rattle.std.specs.List.{flat_map, AllByRecursion}
+use Rattle.std.specs.List.Sorted.{IsStrictlySortedBy}
 use Rattle.std.specs.Ordering.{nat_cmp}
 use Rattle.std.specs.Cmp.Lexicographic.{slice_cmp}
 use Rattle.std.specs.FinMap.{FinMap, entries, from_entries, find, is_sorted}
 use Rattle.base_types.specs.Coins.{Coins}
+use Rattle.base_types.specs.Keys.{hash_cmp}
 use Rattle.base_types.specs.declared.hash.Hash32.{Hash32}
 use Rattle.base_types.specs.declared.hash.OutPoint.{OutPoint}
 use Rattle.base_types.specs.declared.coin.Coin.{Coin}
 use Rattle.coin_codec.specs.CoinText.{CoinFits}
 use Rattle.coin_codec.specs.KeyText.{key_text}
-use Rattle.snapshot_file.specs.Text.{Group, head_text, group_head_text, group_text, member_text, IsSnapshot}
+use Rattle.snapshot_file.specs.Text.{Group, head_text, group_head_text, group_text, member_text, coins_of, IsSnapshot}
 
 -- each coin with the text of its outpoint, by whose bytes the stores order coins
 abbrev pub keyed : List (OutPoint × Coin) → List (List ℕ × (OutPoint × Coin))
@@ -58,11 +60,28 @@ InKeyOrder coins = T (is_sorted (slice_cmp nat_cmp) (keyed coins))
 abbrev pub SameCoins : List (OutPoint × Coin) → List (OutPoint × Coin) → Type 0
 SameCoins a b = (key : List ℕ) → find (slice_cmp nat_cmp) key (keyed a) ≡ find (slice_cmp nat_cmp) key (keyed b)
 
+-- the hash of the transaction has 32 bytes, as every `Hash32` of the program has
+abbrev pub HasWholeTxid : OutPoint × Coin → Type 0
+HasWholeTxid e = length e.0.txid.bytes ≡ 32
+
+abbrev pub HasMembers : Group → Type 0
+HasMembers group = 0 < length group.members
+
+-- by the bytes of their transactions' hashes the groups strictly rise, so each transaction has one
+abbrev pub TxidsRise : List Group → Type 0
+TxidsRise groups = IsStrictlySortedBy hash_cmp (map (λ group. group.txid) groups)
+
 -- What a dump is: the texts that writing the metadata, and then each group's head and its coins, appends; the coins are
--- those that are given, in the order of their keys, and no other list in that order has them; and it is a snapshot of them.
+-- those that are given, in the order of their keys, and no other list in that order has them; the groups hold these
+-- coins in this order, each some of them, with one group for each transaction, and no other groups do; and it is a snapshot
+-- of the coins.
 pub record IsDump (base : Hash32) (coins : Coins) : Type 0 where
   pub written : dump_text base coins ≡ head_text base (length (dump_coins coins)) ++ flat_map (λ group. group_head_text group.txid (length group.members) ++ flat_map member_text group.members) (dump_groups coins)
   pub ordered : InKeyOrder (dump_coins coins)
   pub same : SameCoins (dump_coins coins) (entries coins)
   pub only : (others : List (OutPoint × Coin)) → InKeyOrder others → SameCoins others (entries coins) → others ≡ dump_coins coins
+  pub grouped : coins_of (dump_groups coins) ≡ dump_coins coins
+  pub members : AllByRecursion HasMembers (dump_groups coins)
+  pub rising : AllByRecursion HasWholeTxid (entries coins) → TxidsRise (dump_groups coins)
+  pub only_groups : (others : List Group) → AllByRecursion HasMembers others → TxidsRise others → coins_of others ≡ dump_coins coins → others ≡ dump_groups coins
   pub snapshot : length base.bytes ≡ 32 → length (dump_coins coins) < 2 ^ 64 → AllByRecursion EntryFits (entries coins) → IsSnapshot (dump_text base coins) base (dump_coins coins)

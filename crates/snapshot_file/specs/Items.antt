@@ -1,5 +1,5 @@
 -- The items of a snapshot file, each read from its first byte on: the metadata, the head of a group, and a coin with its number.
-use Rattle.std.specs.Prelude.{◌≡◌, ℕ, ◌+◌, ◌-◌, Bool, true, false, List, [], ◌∷◌, length, Option, Some, None, Result, Ok, Err, ◌==◌, nat_lt, if◌then◌else◌}
+use Rattle.std.specs.Prelude.{ℕ, Bool, false, List, [], ◌∷◌, length, Option, Some, None, Result, Ok, Err, ◌==◌, nat_lt, if◌then◌else◌}
 use Rattle.std.specs.Int.{w64}
 use Rattle.base_types.specs.Reading.{Input, place, ◌>>=◌, bytes_at, number_at, compact_at, length_at}
 use Rattle.base_types.specs.Codec.{Reader, at, field, renamed}

@@ -1,6 +1,6 @@
 -- The texts of a snapshot file (`SnapshotMetadata` in Bitcoin Core's `node/utxo_snapshot.h`, and `WriteUTXOSnapshot` in its `rpc/blockchain.cpp`).
-use Rattle.std.specs.Prelude.{◌≡◌, ℕ, ◌+◌, ◌^◌, ◌<◌, ◌≤◌, List, [], ◌∷◌, ◌++◌, length, map}
-use Rattle.std.specs.Int.{w16, w64}
+use Rattle.std.specs.Prelude.{◌≡◌, ℕ, ◌^◌, ◌<◌, ◌≤◌, List, [], ◌∷◌, ◌++◌, length, map}
+use Rattle.std.specs.Int.{w64}
 use Rattle.std.specs.List.{flat_map, AllByRecursion}
 use Rattle.base_types.specs.Bytes.{compact, number_text}
 use Rattle.base_types.specs.declared.hash.Hash32.{Hash32}

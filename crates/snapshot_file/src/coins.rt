@@ -60,6 +60,13 @@ impl SnapCoins {
         }
     }
 
+    /// Takes room for so many more coins, in one allocation, or in none where it is there.
+    pub(crate) fn reserve(&mut self, count: usize) -> Result<(), AllocError>
+        ensures { self.new ≡ self.old }
+    {
+        self.members.reserve_exact(count)
+    }
+
     /// Adds a coin at the end.
     pub fn push(&mut self, coin: SnapCoin) -> Result<(), AllocError>
         ensures ok { OnOk result (self.new ≡ self.old ++ coin ∷ []) }

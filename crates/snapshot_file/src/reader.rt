@@ -114,6 +114,7 @@ impl Reader {
         if piece.is_empty() {
             return Ok(());
         }
+        coins.reserve(standing.most_coins(piece.len()))?;
         let begun = self.fed();
         let mut used = 0;
         if !self.held.is_empty() {

@@ -13,6 +13,9 @@ use std::alloc::Global;
 /// Of a piece at least so many bytes are added at once to an item that was begun.
 const STEP: usize = 64;
 
+/// The fewest bytes of a coin: the number of its output, the height, the amount and the length of the script have one each.
+const LEAST_COIN: usize = 4;
+
 /// Where a reader stands between two items.
 #[derive(Clone, Copy, Debug)]
 pub(crate) struct Standing {
@@ -52,7 +55,15 @@ fn after_last(bytes: &[u8]) -> ItemFault
 }
 
 impl Standing {
+    ghost use Rattle.std.specs.Prelude.{◌/◌, min};
     ghost use Rattle.snapshot_file.specs.Steps.{Waits, ItemStep, ItemsStep, CompleteStep};
+
+    /// How many coins a piece of so many bytes makes whole at most: the one that was begun, and those that it holds.
+    pub(crate) fn most_coins(&self, len: usize) -> usize
+        ensures { result ≡ min self.now.left (len / 4 + 1) }
+    {
+        self.left.min((len / LEAST_COIN) as u64 + 1) as usize
+    }
 
     // Reads the item that the bytes begin with, which stand at an offset of the file. Answers how many bytes it has.
     fn read_item(

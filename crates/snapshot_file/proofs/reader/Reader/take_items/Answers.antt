@@ -11,9 +11,9 @@ returns c = λ stage waits.
     let join = c.if-not-is_empty in
     let began : Began c.args.standing join.standing old.at old.held.items piece join.used c.args.coins.now join.coins = elim join.branch [
       | then-not-is_empty+in_ok-complete+in-Some w ↦
-          let done = rw w.in-Some.is at (w.in_ok-complete.ensures.step waits) in
+          let done = rw (w.in-Some.is, c.in_ok-reserve.ensures) at (w.in_ok-complete.ensures.step waits) in
           began_whole c.args.standing w.complete.new.self join.standing old.at old.held.items piece join.used w.in-Some.len c.args.coins.now join.coins w.complete.new.coins done w.standing-is w.used-is w.coins-is
-      | else-not-is_empty w ↦ let none = eqb-true _ _ (sym w.if-not-is_empty.ensures) in began_none c.args.standing join.standing old.at old.held.items piece join.used c.args.coins.now join.coins (no_items old.held.items (omega (arith, none))) w.standing-is w.used-is w.coins-is
+      | else-not-is_empty w ↦ let none = eqb-true _ _ (sym w.if-not-is_empty.ensures) in began_none c.args.standing join.standing old.at old.held.items piece join.used c.args.coins.now join.coins (no_items old.held.items (omega (arith, none))) w.standing-is w.used-is (rw c.in_ok-reserve.ensures at w.coins-is)
     ] in
     let within : join.used ≤ length piece = elim join.branch [
       | then-not-is_empty+in_ok-complete+in-Some w ↦ let used = rw w.in-Some.is at w.in_ok-complete.ensures.used in omega arith

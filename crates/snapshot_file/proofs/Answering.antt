@@ -1,16 +1,16 @@
 -- What the reader's public calls answer.
-use Rattle.std.specs.Prelude.{◌≡◌, ◌⊎◌, ℕ, ◌+◌, ◌<◌, ◌≤◌, Bool, true, false, ◌||◌, not, List, [], ◌∷◌, ◌++◌, length, Option, Some, None, option_map, is_some, Result, Ok, Err, refl}
-use Rattle.std.proofs.Common.{sym, ap, subst, ◌∙◌, arith, eqb, inl, inr}
+use Rattle.std.specs.Prelude.{◌≡◌, ◌⊎◌, ℕ, ◌+◌, ◌<◌, true, false, List, [], ◌∷◌, ◌++◌, length, Option, Some, None, option_map, Ok, Err, refl}
+use Rattle.std.proofs.Common.{sym, ap, subst, ◌∙◌, arith, inl, inr}
 use Rattle.std.proofs.lemmas.Bool.{eq-eqb, ne_eqb}
 use Rattle.std.proofs.lemmas.List.{length-append, append-nil}
-use Rattle.base_types.specs.Codec.{IsBytes, at}
+use Rattle.base_types.specs.Codec.{IsBytes}
 use Rattle.base_types.specs.declared.hash.Hash32.{Hash32}
 use Rattle.base_types.specs.declared.snapshot_error.SnapError.{SnapError}
 use Rattle.base_types.specs.declared.snapshot_error.SnapError.TheVariants.{Short}
-use Rattle.snapshot_file.specs.Items.{Wrong, from_first, head_at}
-use Rattle.snapshot_file.specs.Part.{Part, Found, no_group, read_coins, read_part}
-use Rattle.snapshot_file.specs.Steps.{read_from, after, item_len, Waits}
-use Rattle.snapshot_file.specs.Fed.{bytes_fed, failed, failed_at, BehindHead, BrokenBody, WithinHead, StandsAt, HasFed, newly, Became, is_empty, bad, Gave, Refused, FeedAnswer, Grows, is_whole, end_of, finish_of, Taken, Broke, TakeStep}
+use Rattle.snapshot_file.specs.Items.{Wrong}
+use Rattle.snapshot_file.specs.Part.{Part, no_group, read_coins, read_part}
+use Rattle.snapshot_file.specs.Steps.{item_len}
+use Rattle.snapshot_file.specs.Fed.{bytes_fed, failed_at, BehindHead, StandsAt, HasFed, newly, is_empty, bad, FeedAnswer, Grows, is_whole, end_of, finish_of, Taken, TakeStep}
 use Rattle.snapshot_file.specs.declared.coins.SnapCoin.{SnapCoin}
 use Rattle.snapshot_file.specs.declared.fault.SnapFault.{SnapFault}
 use Rattle.snapshot_file.specs.declared.fault.SnapFault.TheVariants.{NoMemory, Bad}

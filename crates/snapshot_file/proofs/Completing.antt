@@ -1,18 +1,17 @@
 -- Completing an item that was begun with bytes of a piece.
-use Rattle.std.specs.Prelude.{◌≡◌, ℕ, ◌+◌, ◌-◌, ◌≤◌, List, ◌++◌, length, take, drop, Option, Some, None, Ok, Err, refl}
+use Rattle.std.specs.Prelude.{◌≡◌, ℕ, ◌+◌, ◌-◌, ◌≤◌, List, ◌++◌, length, take, drop, Ok}
 use Rattle.std.proofs.Common.{sym, ap, subst, ◌∙◌, append_assoc, arith}
 use Rattle.std.proofs.lemmas.List.{length-append, length-take, take-append-drop, drop-append-le}
 use Rattle.std.proofs.Math.Seq.{take-add, drop-append-add}
 use Rattle.base_types.specs.Codec.{IsBytes}
 use Rattle.base_types.specs.declared.snapshot_error.SnapError.{SnapError}
 use Rattle.snapshot_file.specs.Items.{Wrong}
-use Rattle.snapshot_file.specs.Part.{Found}
-use Rattle.snapshot_file.specs.Steps.{read_from, after, next_len, Waits, Goes, Breaks, TookItem, BrokeItem, Stayed, Stops, Completed, StillWaits}
+use Rattle.snapshot_file.specs.Steps.{read_from, after, next_len, Waits, Goes, Breaks, TookItem, BrokeItem, Stops, Completed}
 use Rattle.snapshot_file.specs.declared.coins.SnapCoin.{SnapCoin}
 use Rattle.snapshot_file.specs.declared.fault.SnapFault.{SnapFault}
 use Rattle.snapshot_file.specs.declared.fault.SnapFault.TheVariants as snap
 use Rattle.snapshot_file.specs.declared.standing.Standing.{Standing}
-use Rattle.snapshot_file.proofs.Steps.{item_long}
+use Rattle.snapshot_file.proofs.Steps.{item_long, goes_breaks}
 
 -- the same with more bytes behind
 
@@ -68,3 +67,8 @@ completing_breaks first old at held piece bytes n offset error fault had mid has
     let front : bytes ++ drop n piece ≡ held ++ piece = ap (λ (l : List ℕ). l ++ drop n piece) is ∙ all_of held piece n in
     let g = breaks_more first at bytes (drop n piece) (error, at + offset) had has b in
     rw bad (subst (λ (l : List ℕ). Breaks first at l (error, at + offset) had has) front g)
+
+-- items went on, and the next one broke the form
+pub items_break : (first old : Standing) (at item : ℕ) (bytes rest : List ℕ) (offset : ℕ) (error : SnapError) (fault : SnapFault) (had mid has : List SnapCoin) → fault ≡ snap.Bad error (item + offset) → Goes first old at bytes item rest had mid
+    → BrokeItem old item rest error offset mid has → Stops fault first at bytes had has
+items_break first old at item bytes rest offset error fault had mid has bad goes broke = rw bad (goes_breaks first old at item bytes rest (error, item + offset) had mid has goes broke.breaks)

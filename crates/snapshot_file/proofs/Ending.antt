@@ -1,6 +1,6 @@
 -- Where `finish` answers Ok.
-use Rattle.std.specs.Prelude.{◌≡◌, ◌↔◌, ℕ, ◌==◌, Bool, true, false, List, length, map, Option, Some, None, Result, Ok, Err, refl}
-use Rattle.std.proofs.Common.{sym, ap, subst, ◌∙◌, eqb}
+use Rattle.std.specs.Prelude.{◌≡◌, ℕ, Bool, true, false, List, length, map, Option, Some, None, Result, Ok, refl}
+use Rattle.std.proofs.Common.{sym, ap, ◌∙◌, eqb}
 use Rattle.std.proofs.lemmas.Bool.{eqb-true, eq-eqb}
 use Rattle.std.proofs.lemmas.List.{length-map}
 use Rattle.base_types.specs.Codec.{IsBytes}
@@ -10,7 +10,6 @@ use Rattle.base_types.specs.declared.coin.Coin.{Coin}
 use Rattle.snapshot_file.specs.Items.{Wrong}
 use Rattle.snapshot_file.specs.Part.{Part, read_part}
 use Rattle.snapshot_file.specs.Fed.{entry, IsAll, is_whole, end_of, finish_of, Finishes}
-use Rattle.snapshot_file.specs.declared.coins.SnapCoin.{SnapCoin}
 use Rattle.snapshot_file.specs.declared.fault.SnapFault.{SnapFault}
 use Rattle.snapshot_file.specs.declared.head.SnapHead.{SnapHead}
 use Rattle.snapshot_file.proofs.WholeFiles.{whole_files}

@@ -1,13 +1,12 @@
 -- A longer part says what a shorter one said, and maybe more.
-use Rattle.std.specs.Prelude.{◌≡◌, ℕ, zero, suc, ◌+◌, ◌-◌, Bool, true, List, [], ◌∷◌, ◌++◌, length, Option, Some, None, option_map, is_some, Result, Ok, Err, refl}
-use Rattle.std.proofs.Common.{sym, ap, subst, ◌∙◌, append_assoc, arith}
-use Rattle.std.proofs.lemmas.List.{append-nil, length-append}
+use Rattle.std.specs.Prelude.{◌≡◌, ℕ, zero, suc, ◌+◌, ◌-◌, List, [], ◌∷◌, ◌++◌, Option, Some, None, Result, Ok, Err, refl}
+use Rattle.std.proofs.Common.{sym, ap, subst, ◌∙◌}
+use Rattle.std.proofs.lemmas.List.{append-nil}
 use Rattle.base_types.specs.Reading.{Input, place}
-use Rattle.base_types.specs.Codec.{Reader, at}
+use Rattle.base_types.specs.Codec.{Reader}
 use Rattle.base_types.specs.declared.hash.Hash32.{Hash32}
-use Rattle.base_types.specs.declared.coin.Coin.{Coin}
 use Rattle.snapshot_file.specs.Items.{Wrong, Stop, from_first, head_at, group_at, member_at}
-use Rattle.snapshot_file.specs.Part.{Found, nothing, shifted, met, also, placed, read_member, ended, read_coins, Part, no_group, behind_head, read_part}
+use Rattle.snapshot_file.specs.Part.{Found, met, also, placed, read_member, ended, read_coins, no_group, behind_head, read_part}
 use Rattle.snapshot_file.specs.Fed.{Grows}
 use Rattle.snapshot_file.specs.declared.coins.SnapCoin.{SnapCoin}
 use Rattle.snapshot_file.specs.declared.head.SnapHead.{SnapHead}

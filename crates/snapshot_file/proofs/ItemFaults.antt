@@ -1,9 +1,9 @@
 -- Faults of fields as those of items, and how much was read.
-use Rattle.std.specs.Prelude.{◌≡◌, ℕ, suc, ◌<◌, ◌≤◌, List, [], ◌∷◌, length, drop, Some, None, Result, Ok, Err, refl}
+use Rattle.std.specs.Prelude.{◌≡◌, ℕ, suc, ◌<◌, ◌≤◌, List, [], ◌∷◌, length, drop, None, Result, Ok, Err, refl}
 use Rattle.std.proofs.Common.{ap, ◌∙◌, arith, get_or}
 use Rattle.std.proofs.Math.Seq.{drop-cons}
 use Rattle.base_types.specs.Bytes.{compact}
-use Rattle.base_types.specs.Reading.{Input, ◌>>=◌, on_rest, byte_at, length_at, Spelled}
+use Rattle.base_types.specs.Reading.{Input, on_rest, byte_at, length_at, Spelled}
 use Rattle.base_types.specs.Codec.{at, renamed, bind_ok, ok_is}
 use Rattle.base_types.specs.declared.cursor.ReadError.{ReadError}
 use Rattle.base_types.specs.declared.refused.CoinError.{CoinError}

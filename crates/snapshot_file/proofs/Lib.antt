@@ -10,6 +10,7 @@ pub mod HeadLaws
 pub mod ItemFaults
 pub mod ItemLaws
 pub mod ItemsGrow
+pub mod Least
 pub mod Moving
 pub mod Steps
 pub mod Taking

@@ -1,16 +1,14 @@
 -- What the reader does with a piece behind the metadata.
-use Rattle.std.specs.Prelude.{◌≡◌, ℕ, ◌+◌, ◌-◌, ◌<◌, ◌≤◌, List, [], ◌∷◌, ◌++◌, length, take, drop, Ok, Err, refl}
+use Rattle.std.specs.Prelude.{◌≡◌, ℕ, ◌+◌, ◌-◌, ◌≤◌, List, [], ◌∷◌, ◌++◌, length, take, drop, refl}
 use Rattle.std.proofs.Common.{sym, ap, subst, ◌∙◌, arith}
 use Rattle.std.proofs.lemmas.List.{length-drop, drop-drop, take_all}
-use Rattle.snapshot_file.specs.Steps.{read_from, Waits, Goes, Breaks, Stops, TookItems, Completed}
+use Rattle.snapshot_file.specs.Steps.{Waits, Goes, TookItems, Completed}
 use Rattle.snapshot_file.specs.Fed.{bytes_fed, Moved}
 use Rattle.snapshot_file.specs.declared.coins.SnapCoin.{SnapCoin}
-use Rattle.snapshot_file.specs.declared.fault.SnapFault.{SnapFault}
-use Rattle.snapshot_file.specs.declared.fault.SnapFault.TheVariants as snap
 use Rattle.snapshot_file.specs.declared.standing.Standing.{Standing}
 use Rattle.snapshot_file.specs.declared.reader.Stage.TheVariants.{Coins}
 use Rattle.snapshot_file.specs.declared.reader.Reader.{Reader}
-use Rattle.snapshot_file.proofs.Steps.{goes_same, goes_then, goes_breaks}
+use Rattle.snapshot_file.proofs.Steps.{goes_same, goes_then}
 
 pub no_items : (xs : List ℕ) → length xs ≡ 0 → xs ≡ []
 no_items [] e = refl

@@ -1,16 +1,16 @@
 -- Taking a piece, by where the reader stands.
-use Rattle.std.specs.Prelude.{◌≡◌, ℕ, ◌+◌, ◌-◌, ◌≤◌, List, [], ◌++◌, length, take, drop, Option, Some, None, Result, Ok, Err, refl}
+use Rattle.std.specs.Prelude.{◌≡◌, ℕ, List, [], ◌++◌, length, drop, Option, Some, None, Result, Ok, Err}
 use Rattle.std.proofs.Common.{sym, ap, subst, ◌∙◌, arith}
 use Rattle.base_types.specs.Codec.{IsBytes}
 use Rattle.snapshot_file.specs.Items.{from_first, head_at}
 use Rattle.snapshot_file.specs.Steps.{item_len, Waits, HeadStep, HeadWhole, HeadWaits}
-use Rattle.snapshot_file.specs.Fed.{bytes_fed, failed, failed_at, StandsAt, HasFed, WithinHead, BehindHead, begun, MoveStep, Taken, TakeStep}
+use Rattle.snapshot_file.specs.Fed.{StandsAt, HasFed, WithinHead, begun, MoveStep, Taken, TakeStep}
 use Rattle.snapshot_file.specs.declared.fault.SnapFault.{SnapFault}
 use Rattle.snapshot_file.specs.declared.fault.SnapFault.TheVariants.{NoMemory, Bad}
 use Rattle.snapshot_file.specs.declared.head.SnapHead.{SnapHead}
 use Rattle.snapshot_file.specs.declared.standing.Standing.{Standing}
 use Rattle.snapshot_file.specs.declared.reader.Stage.{Stage}
-use Rattle.snapshot_file.specs.declared.reader.Stage.TheVariants.{Head, Coins, Failed}
+use Rattle.snapshot_file.specs.declared.reader.Stage.TheVariants.{Head, Coins}
 use Rattle.snapshot_file.specs.declared.reader.Pieces.{Pieces}
 use Rattle.snapshot_file.specs.declared.reader.Reader.{Reader}
 use Rattle.snapshot_file.proofs.Feeding.{take_behind, take_first, take_waits, take_breaks}

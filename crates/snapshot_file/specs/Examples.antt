@@ -1,16 +1,15 @@
 -- The definitions computed on small files.
-use Rattle.std.specs.Prelude.{◌≡◌, ℕ, List, [], ◌∷◌, ◌++◌, replicate, take, drop, Option, Some, None, true, false, refl}
+use Rattle.std.specs.Prelude.{◌≡◌, ℕ, List, [], ◌∷◌, ◌++◌, replicate, take, drop, Option, Some, None, true, refl}
 use Rattle.base_types.specs.declared.hash.Hash32.{Hash32}
 use Rattle.base_types.specs.declared.snapshot_error.SnapError.{SnapError}
 use Rattle.base_types.specs.declared.snapshot_error.SnapError.TheVariants.{BadMagic, BadVersion, WrongNetwork, LongSpelling, EmptyGroup, CountMismatch, BadIndex, BadCoin, HeightAbove, LeftOver}
 use Rattle.base_types.specs.declared.refused.CoinError.TheVariants.{HeightTooLarge, UncompressedKey}
-use Rattle.snapshot_file.specs.declared.head.SnapHead.{SnapHead}
 use Rattle.snapshot_file.specs.declared.coins.SnapCoin.{SnapCoin}
 use Rattle.snapshot_file.specs.Text.{magic, version, network}
 use Rattle.base_types.specs.Reading.{compact_at, length_at, groups_at}
 use Rattle.coin_codec.specs.Amount.{amount_of, left_of}
 use Rattle.coin_codec.specs.ScriptForm.{short_form, between}
-use Rattle.coin_codec.specs.Reading.{coin_at, tested_at, amount_at, script_at, raw_at, kept_at}
+use Rattle.coin_codec.specs.Reading.{coin_at, tested_at, amount_at, script_at, raw_at}
 use Rattle.snapshot_file.specs.Items.{Wrong, head_at, mark_at, group_at, member_at}
 use Rattle.snapshot_file.specs.Part.{Part, read_part, read_coins, read_member}
 

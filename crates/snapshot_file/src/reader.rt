@@ -1,6 +1,6 @@
 //! Reading a snapshot file piece by piece.
 
-ghost use Rattle.std.specs.Prelude.{◌≡◌, ◌+◌, ◌^◌, ◌≤◌, ◌++◌, [], length, None, Err, IfErr, OnErr};
+ghost use Rattle.std.specs.Prelude.{◌≡◌, ◌+◌, ◌*◌, ◌^◌, ◌≤◌, ◌++◌, [], length, None, Err, IfOk, IfErr, OnErr};
 
 use crate::coins::SnapCoins;
 use crate::fault::SnapFault;
@@ -109,7 +109,8 @@ impl Reader {
         coins: &mut SnapCoins,
     ) -> Result<(), SnapFault>
         requires { bytes_fed self.old + length piece.now ≤ 2 ^ 63 }
-        ensures { self.old.stage ≡ InCoins standing → Waits standing self.old.held.items → MoveStep result standing self.old self.new piece.now coins.old coins.new }
+        ensures step { self.old.stage ≡ InCoins standing → Waits standing self.old.held.items → MoveStep result standing self.old self.new piece.now coins.old coins.new }
+        ensures few { 4 * length coins.new ≤ 4 * length coins.old + length piece.now + 4 }
     {
         if piece.is_empty() {
             return Ok(());
@@ -134,7 +135,8 @@ impl Reader {
     // Takes the bytes of a piece, and adds what they make whole.
     fn take(&mut self, piece: &[u8], pieces: &mut Pieces) -> Result<(), SnapFault>
         requires { bytes_fed self.old + length piece.now ≤ 2 ^ 63 }
-        ensures { (height : Option ℕ) (fed : List ℕ) → HasFed self.old height fed → failed self.old ≡ None → pieces.old.head ≡ None → pieces.old.coins ≡ [] → TakeStep height fed piece.now result self.new pieces.new }
+        ensures step { (height : Option ℕ) (fed : List ℕ) → HasFed self.old height fed → failed self.old ≡ None → pieces.old.head ≡ None → pieces.old.coins ≡ [] → TakeStep height fed piece.now result self.new pieces.new }
+        ensures few { 4 * length pieces.new.coins ≤ 4 * length pieces.old.coins + length piece.now + 4 }
     {
         match self.stage {
             Stage::Failed(fault) => Err(fault),
@@ -183,10 +185,14 @@ impl Reader {
 
     /// Takes the next bytes of the file. It answers what became whole with them, or what is wrong. Where something became
     /// whole and the bytes then break the form, the next call answers that. After an error every call answers the same. It
-    /// takes one allocation for each coin, and the memory that the coins and the bytes of one item take.
+    /// takes one allocation for each coin and one for the list of them, and with the first bytes of the file one for the
+    /// bytes of an item. The list has room for a coin of each four bytes of the piece, 22 times the piece.
     pub fn feed(&mut self, piece: &[u8]) -> Result<Pieces, SnapFault>
         requires { bytes_fed self.old + length piece.now ≤ 2 ^ 63 }
         ensures answer { (height : Option ℕ) (fed : List ℕ) → HasFed self.old height fed → FeedAnswer height fed piece.now result self.new }
+
+        // At least four bytes make a coin whole, but for the one that was begun.
+        ensures few { IfOk result (λ pieces. 4 * length pieces.coins ≤ length piece.now + 4) }
 
         // However the file is cut.
         ensures grows { (height : Option ℕ) (fed : List ℕ) → Grows (read_part height fed) (read_part height (fed ++ piece.now)) }

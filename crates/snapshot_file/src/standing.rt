@@ -1,6 +1,6 @@
 //! Reading the items behind the metadata, one after the other.
 
-ghost use Rattle.std.specs.Prelude.{◌≡◌, ◌+◌, ◌^◌, ◌<◌, ◌≤◌, length, IfOk, IfSome};
+ghost use Rattle.std.specs.Prelude.{◌≡◌, ◌+◌, ◌*◌, ◌^◌, ◌<◌, ◌≤◌, length, IfOk, IfSome, OnErr};
 ghost use Rattle.snapshot_file.specs.ItemReading.{IsEnd};
 
 use crate::coins::{SnapCoin, SnapCoins};
@@ -73,7 +73,10 @@ impl Standing {
         bytes: &[u8],
         coins: &mut SnapCoins,
     ) -> Result<usize, ItemFault>
-        ensures { ItemStep result self.old self.new at bytes.now coins.old coins.new }
+        ensures step { ItemStep result self.old self.new at bytes.now coins.old coins.new }
+        ensures sized { IfOk result (λ len. 4 * length coins.new ≤ 4 * length coins.old + len) }
+        ensures one { length coins.new ≤ length coins.old + 1 }
+        ensures err { OnErr result (coins.new ≡ coins.old) }
     {
         if self.left == 0 {
             return Err(after_last(bytes));
@@ -110,7 +113,8 @@ impl Standing {
         coins: &mut SnapCoins,
     ) -> Result<usize, SnapFault>
         requires { at + length bytes.now ≤ 2 ^ 63 }
-        ensures { ItemsStep result self.old self.new at bytes.now coins.old coins.new }
+        ensures step { ItemsStep result self.old self.new at bytes.now coins.old coins.new }
+        ensures sized { 4 * length coins.new ≤ 4 * length coins.old + length bytes.now }
     {
         let mut used = 0;
         loop {
@@ -137,6 +141,7 @@ impl Standing {
         requires { at + length held.old.items + length piece.now ≤ 2 ^ 63 }
         ensures step { Waits self.old held.old.items → CompleteStep result self.old self.new at held.old.items piece.now held.new.items coins.old coins.new }
         ensures used { IfOk result (λ taken. IfSome taken (λ used. used ≤ length piece.now)) }
+        ensures one { length coins.new ≤ length coins.old + 1 }
         ensures within { length held.new.items ≤ length held.old.items + length piece.now }
     {
         let before = held.len();

@@ -1,7 +1,4 @@
-use Rattle.std.proofs.Common.{sym, ap, ◌∙◌}
-use Rattle.base_types.specs.Reading.{Input}
 use Rattle.base_types.specs.Codec.{IsBytes-slice}
-use Rattle.snapshot_file.specs.Items.{head_at}
 use Rattle.snapshot_file.proofs.ItemLaws.{head_read}
 use Rattle.snapshot_file.proofs.items.read_head.Goals as goal
 

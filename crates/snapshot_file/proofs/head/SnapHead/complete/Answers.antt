@@ -1,4 +1,4 @@
-use Rattle.std.proofs.Common.{arith, ◌≡◌, ◌-◌, ◌++◌, length, take, sym, ◌∙◌}
+use Rattle.std.proofs.Common.{arith, ◌≡◌, ◌-◌, length, ◌∙◌}
 use Rattle.std.specs.Prelude.{min}
 use Rattle.snapshot_file.proofs.HeadLaws.{head_whole, head_waits, head_breaks}
 use Rattle.snapshot_file.proofs.head.SnapHead.complete.Goals as goal

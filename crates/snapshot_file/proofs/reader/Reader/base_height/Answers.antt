@@ -1,4 +1,4 @@
-use Rattle.std.proofs.Common.{arith, ◌≡◌, ◌∙◌, sym, refl, length}
+use Rattle.std.proofs.Common.{◌∙◌, sym, refl}
 use Rattle.snapshot_file.proofs.Taking.{stands_as}
 use Rattle.snapshot_file.proofs.Answering.{height_set, stands_behind}
 use Rattle.snapshot_file.specs.declared.reader.Stage.TheVariants.{Coins}

@@ -1,4 +1,4 @@
-use Rattle.std.proofs.Common.{arith, ◌≡◌, ◌∙◌, ap, sym}
+use Rattle.std.proofs.Common.{arith}
 use Rattle.snapshot_file.proofs.Ending.{finishes}
 use Rattle.snapshot_file.proofs.Answering.{finish_failed, finish_whole, finish_short_head, finish_short_coins}
 use Rattle.snapshot_file.proofs.reader.Reader.finish.Goals as goal

@@ -1,4 +1,4 @@
-use Rattle.std.proofs.Common.{arith, ap, rules, ◌≡◌, Err, refl, sym, length, drop, take, ◌-◌}
+use Rattle.std.proofs.Common.{arith, ap, rules, ◌≡◌, Err, refl, length}
 use Rattle.std.proofs.lemmas.List.{length-drop}
 use Rattle.base_types.specs.Codec.{IsBytes-slice}
 use Rattle.snapshot_file.proofs.Moving.{rest_is}
@@ -11,22 +11,22 @@ take_items-requires-in-Head c =
     let enough = rw c.in-Some.is at c.in_ok-head-in-Head.ensures.used in
     rw rest_is (omega (arith, held, c.begin_coins-standing.ensures.at, enough, length-drop c.in-Some.used c.args.piece.now))
 
-pub returns-in_err-head-in-Head : goal.returns-in_err-head-in-Head
-returns-in_err-head-in-Head c = λ height fed h on none no_coins.
+pub returns-in_err-head-in-Head-clause-step : goal.returns-in_err-head-in-Head-clause-step
+returns-in_err-head-in-Head-clause-step c = λ height fed h on none no_coins.
     let is : c.from_residual.result ≡ Err c.in_err-head-in-Head.field-0.0 = search rules in
     rw is (take_at_head_err c.args.self.now height fed c.args.piece.now c.args.pieces.now c.in-Head.is h (IsBytes-slice c.args.piece.now c.type_inv.piece) c.in_err-head-in-Head.field-0.0 _ c.complete.new.held.items c.in_err-head-in-Head.ensures.step none no_coins)
 
-pub returns-in_default : goal.returns-in_default
-returns-in_default c = λ height fed h on none no_coins.
+pub returns-in_default-clause-step : goal.returns-in_default-clause-step
+returns-in_default-clause-step c = λ height fed h on none no_coins.
     take_at_head_none c.args.self.now height fed c.args.piece.now c.args.pieces.now c.in-Head.is h (IsBytes-slice c.args.piece.now c.type_inv.piece) _ (rw c.in_default.is at c.in_ok-head-in-Head.ensures.step) c.in-Head.is refl none no_coins
 
-pub returns-in-Coins : goal.returns-in-Coins
-returns-in-Coins c = λ height fed h on none no_coins.
-    take_at_coins c.take_items.result c.args.self.now c.take_items.new.self c.in-Coins.standing height fed c.args.piece.now _ c.in-Coins.is h (IsBytes-slice c.args.piece.now c.type_inv.piece) none (rw no_coins at c.take_items.ensures)
+pub returns-in-Coins-clause-step : goal.returns-in-Coins-clause-step
+returns-in-Coins-clause-step c = λ height fed h on none no_coins.
+    take_at_coins c.take_items.result c.args.self.now c.take_items.new.self c.in-Coins.standing height fed c.args.piece.now _ c.in-Coins.is h (IsBytes-slice c.args.piece.now c.type_inv.piece) none (rw no_coins at c.take_items.ensures.step)
 
-pub returns-in-Some : goal.returns-in-Some
-returns-in-Some c = λ height fed h on none no_coins.
+pub returns-in-Some-clause-step : goal.returns-in-Some-clause-step
+returns-in-Some-clause-step c = λ height fed h on none no_coins.
     let step = rw c.in-Some.is at c.in_ok-head-in-Head.ensures.step in
     let b = c.begin_coins-standing in
-    let moves = rw (b.ensures.result, rest_is c.args.piece.now c.in-Some.used, no_coins) at c.take_items-in-Head.ensures in
+    let moves = rw (b.ensures.result, rest_is c.args.piece.now c.in-Some.used, no_coins) at c.take_items-in-Head.ensures.step in
     take_at_head c.args.self.now height fed c.args.piece.now _ c.in-Head.is h (IsBytes-slice c.args.piece.now c.type_inv.piece) c.take_items-in-Head.result b.new.self c.take_items-in-Head.new.self c.in-Some.head c.in-Some.used c.complete.new.held.items step b.ensures.stage b.ensures.at b.ensures.held refl moves

@@ -4,8 +4,8 @@ use Rattle.snapshot_file.proofs.Moving.{Began, no_items, rest_is, began_none, be
 use Rattle.snapshot_file.proofs.reader.Reader.take_items.Goals as goal
 use Rattle.snapshot_file.proofs.reader.Reader.take_items.Goals.{then-not-is_empty+in_ok-complete+in-Some, else-not-is_empty}
 
-pub returns : goal.returns
-returns c = λ stage waits.
+pub returns-clause-step : goal.returns-clause-step
+returns-clause-step c = λ stage waits.
     let old = c.args.self.now in
     let piece = c.args.piece.now in
     let join = c.if-not-is_empty in
@@ -19,4 +19,4 @@ returns c = λ stage waits.
       | then-not-is_empty+in_ok-complete+in-Some w ↦ let used = rw w.in-Some.is at w.in_ok-complete.ensures.used in omega arith
       | else-not-is_empty w ↦ omega arith
     ] in
-    moved c.args.standing join.standing c.read_items.new.self old _ piece join.used c.in_ok-more.more c.args.coins.now join.coins c.read_items.new.coins (eqb-false _ _ (sym c.if-is_empty.ensures)) within began (let h = c.in_ok-more.ensures in rw (rest_is c.args.piece.now c.if-not-is_empty.used, c.fed-begun.ensures) at h) refl (omega arith) (rw (c.clear.ensures.items, rest_is c.args.piece.now (c.if-not-is_empty.used + c.in_ok-more.more)) at c.in_ok-extend_from_slice.ensures.items)
+    moved c.args.standing join.standing c.read_items.new.self old _ piece join.used c.in_ok-more.more c.args.coins.now join.coins c.read_items.new.coins (eqb-false _ _ (sym c.if-is_empty.ensures)) within began (let h = c.in_ok-more.ensures.step in rw (rest_is c.args.piece.now c.if-not-is_empty.used, c.fed-begun.ensures) at h) refl (omega arith) (rw (c.clear.ensures.items, rest_is c.args.piece.now (c.if-not-is_empty.used + c.in_ok-more.more)) at c.in_ok-extend_from_slice.ensures.items)

@@ -21,20 +21,21 @@ const LIMITS: Limits = Limits {
     headers: 4_194_304,
 };
 
-// The blocks of the file, read once so that hashing them can be measured alone.
-fn blocks(alloc: Global, host: &mut MemHost) -> Result<Vec<Block>> {
+// The blocks of the file, so many, read once so that hashing them can be measured alone.
+fn blocks(alloc: Global, host: &mut MemHost, count: u32) -> Result<Vec<Block>> {
     if host.open_in(NAME).is_err() {
         bail!("no file");
     }
     let mut frames = Frames::new(alloc, None)?;
     let mut blocks = Vec::new(alloc);
-    loop {
+    for _ in 0..count {
         match frames.next(host) {
             Ok(Some(block)) => blocks.push(block)?,
-            Ok(None) => return Ok(blocks),
+            Ok(None) => bail!("a frame is missing"),
             Err(_) => bail!("the file isn't read to its end"),
         }
     }
+    Ok(blocks)
 }
 
 // A byte of the merkle root, for which each transaction is hashed once, and one of the block's hash.
@@ -98,7 +99,7 @@ fn folding(rt: &HostRuntime, host: &mut MemHost) -> Result<u128> {
 pub fn measure(rt: &HostRuntime, count: u32) -> Result<()> {
     let mut host = generated(rt.alloc(), count)?;
     let bytes = host.get(NAME).map_or(0, <[u8]>::len);
-    let blocks = blocks(rt.alloc(), &mut host)?;
+    let blocks = blocks(rt.alloc(), &mut host, count)?;
     let (hashing, sum) = hashing(rt, &blocks)?;
     let folding = folding(rt, &mut host)?;
     println!(rt; "{count} {hashing} {folding} {bytes} {sum}")?;

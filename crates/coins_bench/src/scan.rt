@@ -21,13 +21,14 @@ fn read(rt: &HostRuntime, host: &mut MemHost) -> Result<u64> {
     if host.open_in(NAME).is_err() {
         bail!("no file");
     }
-    loop {
+    for _ in 0..u32::MAX {
         match host.read_in(&mut piece) {
-            Ok(0) => return Ok(taken),
+            Ok(0) => break,
             Ok(count) => taken = taken.saturating_add(count as u64),
             Err(_) => bail!("a read failed"),
         }
     }
+    Ok(taken)
 }
 
 // Scans the file, in which no frame stands.

@@ -12,6 +12,3 @@ mod stop;
 
 pub use base_types::{Limits, Salt, Status, Words};
 pub use program::run;
-
-#[cfg(test)]
-mod tests;

@@ -4,6 +4,7 @@ ghost use Rattle.std.specs.Prelude.{◌≡◌, true, map, nat_lt};
 ghost use Rattle.std.specs.FinMap.{contains_key};
 ghost use Rattle.chain_model.specs.Rules.{first_some, first_broken};
 ghost use Rattle.chain_model.specs.BodyRules.{body_broken, place_below, tx_broken};
+ghost use Rattle.block_codec.specs.Text.{txid_of};
 ghost use Rattle.block_codec.specs.Weight.{weight_of};
 ghost use Rattle.block_checks.specs.Answer.{Answers};
 ghost use Rattle.block_checks.specs.Standing.{place_of};
@@ -16,10 +17,10 @@ use crate::place::Standing;
 use crate::structure::check_structure;
 use crate::transaction::check_transaction;
 use crate::witness::check_witness;
-use base_types::BodyRefused;
+use base_types::{BodyRefused, Hash32};
 use block_codec::{Block, Tx, weight};
 use chain_model::TreeView;
-use merkle::commitment;
+use merkle::{commitment, txids};
 use std::alloc::Global;
 
 /// The most weight that a block may have (BIP141).
@@ -31,15 +32,36 @@ pub fn check_body<T: TreeView>(alloc: Global, block: &Block, tree: &T) -> Result
     requires { contains_key (T.tree tree.now).headers block.now.header.prev ≡ true }
     ensures { Answers (body_broken (place_below (T.tree tree.now) block.now.header.prev) block.now) result }
 {
+    let txids = txids(alloc, block.txs.as_slice())?;
+    check_hashed_body(alloc, block, &txids, tree)
+}
+
+/// The same where the txids of the block's transactions are known, so that none is hashed once more.
+pub fn check_hashed_body<T: TreeView>(
+    alloc: Global,
+    block: &Block,
+    txids: &[Hash32],
+    tree: &T,
+) -> Result<(), CheckFault>
+    requires parent { contains_key (T.tree tree.now).headers block.now.header.prev ≡ true }
+    requires hashed { txids.now ≡ map txid_of block.now.txs }
+    ensures { Answers (body_broken (place_below (T.tree tree.now) block.now.header.prev) block.now) result }
+{
     let standing = Standing::below(tree, &block.header.prev);
-    check_at(alloc, &standing, block)
+    check_at(alloc, &standing, block, txids)
 }
 
 /// The same by where the block stands.
-pub fn check_at(alloc: Global, standing: &Standing, block: &Block) -> Result<(), CheckFault>
+pub fn check_at(
+    alloc: Global,
+    standing: &Standing,
+    block: &Block,
+    txids: &[Hash32],
+) -> Result<(), CheckFault>
+    requires { txids.now ≡ map txid_of block.now.txs }
     ensures { Answers (body_broken (place_of standing.now) block.now) result }
 {
-    check_structure(alloc, block)?;
+    check_structure(alloc, block, txids)?;
     check_transactions(alloc, block.txs.as_slice())?;
     check_standing(alloc, standing, block)
 }

@@ -12,7 +12,7 @@ mod structure;
 mod transaction;
 mod witness;
 
-pub use body::check_body;
+pub use body::{check_body, check_hashed_body};
 pub use fault::CheckFault;
 
 #[cfg(test)]

@@ -1,6 +1,6 @@
 //! The parts of a block: its root, its size, and where its coinbase is.
 
-ghost use Rattle.std.specs.Prelude.{◌≡◌, IfOk, map};
+ghost use Rattle.std.specs.Prelude.{◌≡◌, map};
 ghost use Rattle.std.specs.List.{list_any};
 ghost use Rattle.block_codec.specs.Text.{txid_of, is_coinbase as names_no_output};
 ghost use Rattle.chain_model.specs.Rules.{first_broken};
@@ -10,20 +10,21 @@ ghost use Rattle.block_checks.specs.Groups.{structure_rules, is_too_large as exc
 
 use crate::fault::CheckFault;
 use base_types::{BodyRefused, Hash32};
-use block_codec::{Block, Tx, is_coinbase, stripped_size, txid};
-use merkle::root_in_place;
-use std::alloc::{AllocError, Global};
+use block_codec::{Block, Tx, is_coinbase, stripped_size};
+use merkle::root;
+use std::alloc::Global;
 
 /// The most bytes that a block may have in the form without witnesses, and the most transactions.
 const MAX_STRIPPED: u64 = 1_000_000;
 
-/// The first rule of its parts that a block breaks.
+/// The first rule of its parts that a block with these txids breaks.
 #[tactic(auto, unfolding(chain_model::specs::Rules::first_broken))]
-pub fn check_structure(alloc: Global, block: &Block) -> Result<(), CheckFault>
+pub fn check_structure(alloc: Global, block: &Block, txids: &[Hash32]) -> Result<(), CheckFault>
+    requires { txids.now ≡ map txid_of block.now.txs }
     ensures { Answers (first_broken (structure_rules block.now)) result }
 {
     let txs = block.txs.as_slice();
-    let root = root_in_place(txids(alloc, txs)?);
+    let root = root(alloc, txids)?;
     if root.hash != block.header.root {
         return Err(CheckFault::Refused(BodyRefused::BadMerkle));
     }
@@ -40,12 +41,6 @@ pub fn check_structure(alloc: Global, block: &Block) -> Result<(), CheckFault>
         return Err(CheckFault::Refused(BodyRefused::SecondCoinbase));
     }
     Ok(())
-}
-
-fn txids(alloc: Global, txs: &[Tx]) -> Result<Vec<Hash32>, AllocError>
-    ensures { IfOk result (λ hashes. hashes.items ≡ map txid_of txs.now) }
-{
-    txs.iter().map(|tx| txid(tx)).collect(alloc)
 }
 
 fn is_too_large(block: &Block) -> bool

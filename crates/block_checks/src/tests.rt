@@ -5,8 +5,8 @@ use crate::body::check_at;
 use crate::fault::CheckFault;
 use crate::place::Standing;
 use base_types::{BodyRefused, Hash32, OutPoint, Rules, Script, TxOut};
-use block_codec::{Block, Header, Inputs, Outputs, Stack, Tx, TxIn, Txs, txid};
-use merkle::{computed_commitment, root};
+use block_codec::{Block, Header, Inputs, Outputs, Stack, Tx, TxIn, Txs};
+use merkle::{computed_commitment, root, txids};
 use std::alloc::{AllocError, Global};
 
 const ZERO: Hash32 = Hash32 { bytes: [0; 32] };
@@ -183,10 +183,7 @@ fn block_of(alloc: Global, shape: &Shape) -> Result<Block, AllocError> {
             txs: txs_of(alloc, shape, Some(hash))?,
         };
     }
-    let mut txids = Vec::new(alloc);
-    for tx in block.txs.as_slice() {
-        txids.push(txid(tx))?;
-    }
+    let txids = txids(alloc, block.txs.as_slice())?;
     block.header.root = match shape.root {
         Some(hash) => hash,
         None => root(alloc, &txids)?.hash,
@@ -201,7 +198,8 @@ fn answer(alloc: Global, shape: &Shape) -> Result<Option<BodyRefused>, AllocErro
         median: shape.median,
         rules: shape.rules,
     };
-    match check_at(alloc, &standing, &block) {
+    let txids = txids(alloc, block.txs.as_slice())?;
+    match check_at(alloc, &standing, &block, &txids) {
         Ok(()) => Ok(None),
         Err(CheckFault::Refused(rule)) => Ok(Some(rule)),
         Err(CheckFault::NoMemory) => Err(AllocError),

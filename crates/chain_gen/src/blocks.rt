@@ -1,9 +1,8 @@
 //! Generated blocks, and their frames.
 
-ghost use Rattle.std.specs.Prelude.{◌≡◌, ◌≤◌, ◌++◌, ◌-◌, length, take, drop, map, IfOk, OnOk};
+ghost use Rattle.std.specs.Prelude.{◌≡◌, ◌≤◌, ◌++◌, ◌-◌, length, take, drop, IfOk, OnOk};
 ghost use Rattle.std.specs.Int.{w32};
 ghost use Rattle.base_types.specs.Bytes.{number_text};
-ghost use Rattle.block_codec.specs.Text.{txid_of};
 ghost use Rattle.chain_model.specs.Generated.{block_at as block_of, frame_text};
 ghost use Rattle.block_codec.specs.Merkle.{merkle_root};
 ghost use Rattle.chain_gen.specs.Blocks.{IsBlock};
@@ -12,8 +11,8 @@ use crate::fault::GenFault;
 use crate::mining::mine;
 use crate::transactions::txs_at;
 use base_types::Hash32;
-use block_codec::{Block, Header, Tx, txid, write_block};
-use merkle::root_in_place;
+use block_codec::{Block, Header, write_block};
+use merkle::{root_in_place, txids};
 use std::alloc::{AllocError, Global};
 
 /// The message start of regtest (`pchMessageStart` in Bitcoin Core's `kernel/chainparams.cpp`).
@@ -24,12 +23,6 @@ const GENESIS_TIME: u32 = 1_296_688_602;
 
 /// The seconds from one block to the next.
 const SPACING: u32 = 600;
-
-fn txids(alloc: Global, txs: &[Tx]) -> Result<Vec<Hash32>, AllocError>
-    ensures { IfOk result (λ hashes. hashes.items ≡ map txid_of txs.now) }
-{
-    txs.iter().map(|tx| txid(tx)).collect(alloc)
-}
 
 /// The block of a height over the previous block's hash, and its own hash.
 #[tactic(auto, unfolding(chain_model::specs::Generated::block_at))]

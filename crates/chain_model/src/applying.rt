@@ -21,8 +21,9 @@ use crate::spending::fees_after;
 use crate::standing::Standing;
 use crate::tree_view::TreeView;
 use base_types::{CoinRefused, Hash32};
-use block_codec::{Block, Tx, block_hash, txid};
-use std::alloc::{AllocError, Global};
+use block_codec::{Block, Tx, block_hash};
+use merkle::txids;
+use std::alloc::Global;
 
 /// Applies a block that stands in a tree to coins. `Refused` has the block's hash and the first rule that it breaks; the coins
 /// are then as before. After `NoMemory` they may be anything.
@@ -44,7 +45,32 @@ pub fn apply_block<T: TreeView>(
     ensures untouched { OnOk result (Untouched block.now coins.old coins.new) }
     ensures values { OnOk result (MakesAtMostTheSubsidy (height (T.tree tree.now).headers block.now.header.prev + 1) coins.old coins.new) }
 {
-    match apply(alloc, coins, block, tree) {
+    let txids = txids(alloc, block.txs.as_slice())?;
+    apply_hashed_block(alloc, coins, block, &txids, tree)
+}
+
+/// The same where the txids of the block's transactions are known, so that none is hashed once more.
+pub fn apply_hashed_block<T: TreeView>(
+    alloc: Global,
+    coins: &mut Plain,
+    block: &Block,
+    txids: &[Hash32],
+    tree: &T,
+) -> Result<(), ReplayFault>
+    requires stands { Stands (T.tree tree.now) block.now }
+    requires hashed { txids.now ≡ map txid_of block.now.txs }
+
+    // The coins after the block, or the rule that it breaks, and the other way round.
+    ensures ok { OnOk result (outcome (T.tree tree.now) coins.old block.now ≡ Ok coins.new) }
+    ensures refused { OnRefused result (λ hash rule. (outcome (T.tree tree.now) coins.old block.now ≡ Err rule) × (hash ≡ hash_of_header block.now.header)) }
+    ensures only { (rule : CoinRefused) → outcome (T.tree tree.now) coins.old block.now ≡ Err rule → RefusedBy result rule }
+    ensures kept { OnRefused result (λ _ _. coins.new ≡ coins.old) }
+
+    // What holds of every block.
+    ensures untouched { OnOk result (Untouched block.now coins.old coins.new) }
+    ensures values { OnOk result (MakesAtMostTheSubsidy (height (T.tree tree.now).headers block.now.header.prev + 1) coins.old coins.new) }
+{
+    match apply(alloc, coins, block, txids, tree) {
         Ok(()) => Ok(()),
         Err(ApplyFault::NoMemory) => Err(ReplayFault::NoMemory),
         Err(ApplyFault::Refused(why)) => Err(ReplayFault::Refused {
@@ -59,31 +85,34 @@ pub(crate) fn apply<T: TreeView>(
     alloc: Global,
     coins: &mut Plain,
     block: &Block,
+    txids: &[Hash32],
     tree: &T,
 ) -> Result<(), ApplyFault>
+    requires { txids.now ≡ map txid_of block.now.txs }
     ensures answers { MatchResult result (λ _. outcome (T.tree tree.now) coins.old block.now ≡ Ok coins.new) (λ fault. Refuses (outcome (T.tree tree.now) coins.old block.now) fault) }
     ensures kept { KeptOnRefusal result coins.old coins.new }
 {
     let standing = Standing::below(tree, &block.header.prev)?;
-    let changes = changes_of(alloc, &standing, coins, block.txs.as_slice())?;
+    let changes = changes_of(alloc, &standing, coins, block.txs.as_slice(), txids)?;
     changes.merge_into(coins)?;
     Ok(())
 }
 
-/// The changes that the transactions of a block make to coins, the first of which is the coinbase, or the first rule that
-/// they break.
+/// The changes that the transactions of a block, of these txids, make to coins, or the first rule that they break. The first
+/// transaction is the coinbase.
 pub fn changes_of<T: TreeView>(
     alloc: Global,
     standing: &Standing<T>,
     coins: &Plain,
     txs: &[Tx],
+    txids: &[Hash32],
 ) -> Result<Changes, ApplyFault>
+    requires { txids.now ≡ map txid_of txs.now }
     ensures { MatchResult result
         (λ changes. outcome_of (T.tree standing.now.tree.now) standing.now.parent.now standing.now.height coins.now txs.now ≡ Ok (with_changes changes coins.now))
         (λ fault. Refuses (outcome_of (T.tree standing.now.tree.now) standing.now.parent.now standing.now.height coins.now txs.now) fault) }
 {
-    let txids = txids(alloc, txs)?;
-    if overwrites(coins, txs, &txids)? {
+    if overwrites(coins, txs, txids)? {
         return Err(ApplyFault::Refused(CoinRefused::Bip30));
     }
     let [coinbase, others @ ..] = txs else {
@@ -96,12 +125,6 @@ pub fn changes_of<T: TreeView>(
         return Err(ApplyFault::Refused(CoinRefused::CoinbaseAmount));
     }
     Ok(changes)
-}
-
-fn txids(alloc: Global, txs: &[Tx]) -> Result<Vec<Hash32>, AllocError>
-    ensures { IfOk result (λ hashes. hashes.items ≡ map txid_of txs.now) }
-{
-    txs.iter().map(|tx| txid(tx)).collect(alloc)
 }
 
 /// Adds the changes that transactions make which aren't coinbases, one after the other. The result is the sum of their fees.

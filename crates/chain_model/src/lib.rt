@@ -15,7 +15,7 @@ mod spending;
 mod standing;
 mod tree_view;
 
-pub use applying::apply_block;
+pub use applying::{apply_block, apply_hashed_block};
 pub use fault::ReplayFault;
 pub use plain::Plain;
 pub use replaying::replay;

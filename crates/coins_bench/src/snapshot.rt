@@ -88,7 +88,7 @@ fn feed(reader: &mut Reader, piece: &[u8]) -> Result<usize> {
 
 // A reader that was fed the metadata.
 fn reader(alloc: Global, head: &[u8]) -> Result<Reader> {
-    let mut reader = Reader::new(alloc);
+    let mut reader = Reader::new(alloc)?;
     feed(&mut reader, head)?;
     if reader.fed() != HEAD as u64 {
         bail!("metadata of another length");

@@ -1,11 +1,11 @@
 //! Folding blocks from genesis, each of which has to be a child of the one before it.
 
-ghost use Rattle.std.specs.Prelude.{◌≡◌, ◌+◌, ◌<◌, ◌≤◌, true, length, Ok, IfOk, OnOk, IfErr};
+ghost use Rattle.std.specs.Prelude.{◌≡◌, ◌+◌, ◌<◌, ◌≤◌, true, length, map, Ok, IfOk, OnOk, IfErr};
 ghost use Rattle.std.specs.FinMap as finite;
 ghost use Rattle.chain_model.specs.Apply.{outcome};
 ghost use Rattle.chain_model.specs.BodyRules.{place_below};
 ghost use Rattle.chain_model.specs.Folding.{nothing_folded, with_block};
-ghost use Rattle.block_codec.specs.Text.{hash_of_header};
+ghost use Rattle.block_codec.specs.Text.{hash_of_header, txid_of};
 ghost use Rattle.chain_model.specs.Tree.{genesis_hash};
 ghost use Rattle.chain_model.specs.Standing.{Stands};
 ghost use Rattle.machine.specs.Steps.{folded_reply};
@@ -13,11 +13,12 @@ ghost use Rattle.coins_top.specs.Folds.{EndsFold, HeaderEnds, BodyEnds, CoinsEnd
 
 use crate::ending::Ending;
 use base_types::{Hash32, Limits, Rules};
-use block_checks::{CheckFault, check_body};
+use block_checks::{CheckFault, check_hashed_body};
 use block_codec::{Block, Header, block_hash};
-use chain_model::{Plain, ReplayFault, apply_block};
+use chain_model::{Plain, ReplayFault, apply_hashed_block};
 use command_text::{Reply, Rule};
 use header_tree::{AcceptFault, Tree};
+use merkle::txids;
 use std::alloc::{AllocError, Global};
 use std::marker::Model;
 
@@ -91,8 +92,9 @@ impl Folding {
             return Err(Ending::Replied(Reply::NotNext { hash }));
         }
         let hash = accept(&mut self.tree, &block.header)?;
-        check(alloc, block, hash, &self.tree)?;
-        apply(alloc, &mut self.coins, block, &self.tree)?;
+        let txids = txids(alloc, block.txs.as_slice())?;
+        check(alloc, block, &txids, hash, &self.tree)?;
+        apply(alloc, &mut self.coins, block, &txids, &self.tree)?;
         self.tip = hash;
         Ok(())
     }
@@ -127,12 +129,19 @@ fn accept(tree: &mut Tree, header: &Header) -> Result<Hash32, Ending>
     }
 }
 
-// Checks the body of a block of this hash, whose header is in the tree.
-fn check(alloc: Global, block: &Block, hash: Hash32, tree: &Tree) -> Result<(), Ending>
-    requires { finite.contains_key tree.now.tree.headers block.now.header.prev ≡ true }
+// Checks the body of a block of this hash and with these txids, whose header is in the tree.
+fn check(
+    alloc: Global,
+    block: &Block,
+    txids: &[Hash32],
+    hash: Hash32,
+    tree: &Tree,
+) -> Result<(), Ending>
+    requires parent { finite.contains_key tree.now.tree.headers block.now.header.prev ≡ true }
+    requires hashed { txids.now ≡ map txid_of block.now.txs }
     ensures { BodyEnds (place_below tree.now.tree block.now.header.prev) block.now hash result }
 {
-    match check_body(alloc, block, tree) {
+    match check_hashed_body(alloc, block, txids, tree) {
         Ok(()) => Ok(()),
         Err(CheckFault::NoMemory) => Err(Ending::NoMemory),
         Err(CheckFault::Refused(why)) => Err(Ending::Replied(Reply::Block {
@@ -142,12 +151,19 @@ fn check(alloc: Global, block: &Block, hash: Hash32, tree: &Tree) -> Result<(), 
     }
 }
 
-// Applies a block to the coins.
-fn apply(alloc: Global, coins: &mut Plain, block: &Block, tree: &Tree) -> Result<(), Ending>
-    requires { Stands tree.now.tree block.now }
+// Applies a block with these txids to the coins.
+fn apply(
+    alloc: Global,
+    coins: &mut Plain,
+    block: &Block,
+    txids: &[Hash32],
+    tree: &Tree,
+) -> Result<(), Ending>
+    requires stands { Stands tree.now.tree block.now }
+    requires hashed { txids.now ≡ map txid_of block.now.txs }
     ensures { CoinsEnd (outcome tree.now.tree coins.old block.now) (hash_of_header block.now.header) coins.new result }
 {
-    match apply_block(alloc, coins, block, tree) {
+    match apply_hashed_block(alloc, coins, block, txids, tree) {
         Ok(()) => Ok(()),
         Err(ReplayFault::NoMemory) => Err(Ending::NoMemory),
         Err(ReplayFault::Refused { hash, why }) => Err(Ending::Replied(Reply::Block {

@@ -12,3 +12,6 @@ mod stop;
 
 pub use base_types::{Limits, Salt, Status, Words};
 pub use program::run;
+
+#[cfg(test)]
+mod tests;

@@ -7,10 +7,6 @@ use crate::item_fault::ItemFault;
 use crate::items::read_head;
 use base_types::Hash32;
 
-/// A reader holds no more bytes than these, so their room is taken once, with the first bytes: twice an item that isn't
-/// whole, of which the longest is a coin with a script of 10,000 bytes.
-const HELD: usize = 20_480;
-
 /// The metadata: the hash of the base block, and the number of coins.
 #[derive(Clone, Copy, Debug, PartialEq, Eq)]
 pub struct SnapHead {
@@ -35,7 +31,6 @@ impl SnapHead {
         ensures used { IfOk result (λ taken. IfSome taken (λ whole. (whole.1 ≤ length piece.now) × (51 ≤ length held.old.items + whole.1))) }
         ensures within { length held.new.items ≤ length held.old.items + length piece.now }
     {
-        held.reserve(HELD.saturating_sub(held.len()))?;
         let used = SnapHead::LEN.saturating_sub(held.len()).min(piece.len());
         held.extend_from_slice(&piece[..used])?;
         match read_head(held) {

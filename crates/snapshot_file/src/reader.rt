@@ -7,7 +7,10 @@ use crate::fault::SnapFault;
 use crate::head::SnapHead;
 use crate::standing::Standing;
 use base_types::SnapError;
-use std::alloc::Global;
+use std::alloc::{AllocError, Global};
+
+/// The room for an item that isn't whole yet, which is taken once: twice the longest, a coin with a script of 10,000 bytes.
+const HELD: usize = 20_480;
 
 /// What a piece made whole: the metadata, and coins in the order of the file.
 #[derive(Debug, PartialEq, Eq, Drop)]
@@ -67,16 +70,16 @@ impl Reader {
     ghost use Rattle.snapshot_file.specs.Fed.{bytes_fed, failed, begun, HasFed, FeedAnswer, Grows, finish_of, Finishes, MoveStep, TakeStep};
     ghost use Rattle.snapshot_file.specs.declared.reader.Stage.TheVariants.{Coins as InCoins};
 
-    /// A reader that was fed nothing. It takes no memory.
-    pub fn new(alloc: Global) -> Reader
-        ensures { HasFed result None [] }
+    /// A reader that was fed nothing, with room for the bytes of one item. It fails where no memory is left for that.
+    pub fn new(alloc: Global) -> Result<Reader, AllocError>
+        ensures { IfOk result (λ reader. HasFed reader None []) }
     {
-        Reader {
+        Ok(Reader {
             alloc,
             stage: Stage::Head,
             at: 0,
-            held: Vec::new(alloc),
-        }
+            held: Vec::with_capacity(alloc, HELD)?,
+        })
     }
 
     /// How many bytes it was fed.
@@ -185,8 +188,8 @@ impl Reader {
 
     /// Takes the next bytes of the file. It answers what became whole with them, or what is wrong. Where something became
     /// whole and the bytes then break the form, the next call answers that. After an error every call answers the same. It
-    /// takes one allocation for each coin and one for the list of them, and with the first bytes of the file one for the
-    /// bytes of an item. The list has room for a coin of each four bytes of the piece, 22 times the piece.
+    /// takes one allocation for each coin and one for the list of them, which has room for a coin of each four bytes of the
+    /// piece, 22 times the piece.
     pub fn feed(&mut self, piece: &[u8]) -> Result<Pieces, SnapFault>
         requires { bytes_fed self.old + length piece.now ≤ 2 ^ 63 }
         ensures answer { (height : Option ℕ) (fed : List ℕ) → HasFed self.old height fed → FeedAnswer height fed piece.now result self.new }

@@ -33,7 +33,7 @@ fn read(
     len: usize,
     height: Option<u32>,
 ) -> Result<(Pieces, Result<(), SnapFault>), Fail> {
-    let mut reader = Reader::new(alloc);
+    let mut reader = Reader::new(alloc)?;
     let mut all = reader.feed(b"")?;
     let mut rest = bytes;
     if let Some(height) = height {

@@ -3,7 +3,7 @@ use Rattle.chain_model.specs.Tree.{height}
 use Rattle.chain_model.specs.BodyRules.{place_below}
 use Rattle.chain_model.proofs.UntouchedCoins.{untouched}
 use Rattle.chain_model.proofs.Minting.{makes_at_most}
-use Rattle.chain_model.proofs.applying.apply_block.Goals as goal
+use Rattle.chain_model.proofs.applying.apply_hashed_block.Goals as goal
 
 pub returns-in-Ok-clause-untouched : goal.returns-in-Ok-clause-untouched
 returns-in-Ok-clause-untouched g c =
@@ -11,4 +11,4 @@ returns-in-Ok-clause-untouched g c =
 
 pub returns-in-Ok-clause-values : goal.returns-in-Ok-clause-values
 returns-in-Ok-clause-values g c =
-    makes_at_most (g.T.TreeView.tree c.args.tree.now) (height (g.T.TreeView.tree c.args.tree.now).headers c.args.block.now.header.prev + 1) (place_below (g.T.TreeView.tree c.args.tree.now) c.args.block.now.header.prev) c.args.coins.now c.args.block.now c.apply.new.coins c.requires.sound c.in-Ok.ensures.answers
+    makes_at_most (g.T.TreeView.tree c.args.tree.now) (height (g.T.TreeView.tree c.args.tree.now).headers c.args.block.now.header.prev + 1) (place_below (g.T.TreeView.tree c.args.tree.now) c.args.block.now.header.prev) c.args.coins.now c.args.block.now c.apply.new.coins c.requires.stands.sound c.in-Ok.ensures.answers

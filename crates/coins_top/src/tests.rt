@@ -1,0 +1,295 @@
+use super::*;
+use io_traits::{MemHost, MemSink, MemSource};
+use std::alloc::{AllocError, Global};
+use std::test::Fail;
+
+const SALT: Salt = Salt { a: 1, b: 2 };
+
+const LIMITS: Limits = Limits {
+    file_bytes: 68_719_476_736,
+    headers: 4_194_304,
+};
+
+// Frames, as digits: genesis, and the blocks that `generate 2 2` makes.
+const GENESIS: &str =
+    "fabfb5da1d0100000100000000000000000000000000000000000000000000000000000000000000000000003ba3edfd7a7b12b27ac72c3e67768f617fc81bc3888a51323a9fb8aa4b1e5e4adae5494dffff7f20020000000101000000010000000000000000000000000000000000000000000000000000000000000000ffffffff4d04ffff001d0104455468652054696d65732030332f4a616e2f32303039204368616e63656c6c6f72206f6e206272696e6b206f66207365636f6e64206261696c6f757420666f722062616e6b73ffffffff0100f2052a01000000434104678afdb0fe5548271967f1a67130b7105cd6a828e03909a67962e0ea1f61deb649f6bc3f4cef38c4f35504e51ec112de5c384df7ba0b8d578a4c702b6bf11d5fac00000000";
+
+const FIRST: &str =
+    "fabfb5da980000000000002006226e46111a0b59caaf126043eb5bbf28c34f3a5e332a1fc7b2b73cf188910fdfe24dd0875cf5e37d2d5da42fea2ab817b756363c574ec1b670655db22cc74032e8494dffff7f20000000000102000000010000000000000000000000000000000000000000000000000000000000000000ffffffff0a51080200000000000000ffffffff0100f2052a01000000015100000000";
+
+const SECOND: &str =
+    "fabfb5dab0000000000000202ad58f5a35b905bdcfc7c3db89bc4cd5f963858508b3f1b81387060f0600bd7d117cdd6d993fae3b17a3db5957ce7f01f3450a87df724d3f455f2bd08058c5eb8aea494dffff7f20000000000102000000010000000000000000000000000000000000000000000000000000000000000000ffffffff0a52080200000000000000ffffffff0100f2052a010000001976a9147e884a6b9b449b425901971ed16af90f0a46248088ac00000000";
+
+// A block whose hash is above the target.
+const HIGH_HASH: &str =
+    "fabfb5da980000000000002006226e46111a0b59caaf126043eb5bbf28c34f3a5e332a1fc7b2b73cf188910fdfe24dd0875cf5e37d2d5da42fea2ab817b756363c574ec1b670655db22cc74032e8494dffff7f20010000000102000000010000000000000000000000000000000000000000000000000000000000000000ffffffff0a51080200000000000000ffffffff0100f2052a01000000015100000000";
+
+// A block of version 3.
+const VERSION_3: &str =
+    "fabfb5da980000000300000006226e46111a0b59caaf126043eb5bbf28c34f3a5e332a1fc7b2b73cf188910fdfe24dd0875cf5e37d2d5da42fea2ab817b756363c574ec1b670655db22cc74032e8494dffff7f20030000000102000000010000000000000000000000000000000000000000000000000000000000000000ffffffff0a51080200000000000000ffffffff0100f2052a01000000015100000000";
+
+// A block at height 1 whose coinbase says 2.
+const OTHER_HEIGHT: &str =
+    "fabfb5da900000000000002006226e46111a0b59caaf126043eb5bbf28c34f3a5e332a1fc7b2b73cf188910f5478c97c6b5640f25032547788b01544dc6f9a35947594db7c979bbb6dc3261532e8494dffff7f20000000000102000000010000000000000000000000000000000000000000000000000000000000000000ffffffff025201ffffffff0100f2052a01000000015100000000";
+
+// A block whose coinbase pays one satoshi more than the subsidy.
+const PAYS_ONE_TOO_MUCH: &str =
+    "fabfb5da980000000000002006226e46111a0b59caaf126043eb5bbf28c34f3a5e332a1fc7b2b73cf188910f2f3f29fcaadbb18754c3c996f7d0647d7947b87c6c82318fd53aecebe2a74c6932e8494dffff7f20000000000102000000010000000000000000000000000000000000000000000000000000000000000000ffffffff0a51080200000000000000ffffffff0101f2052a01000000015100000000";
+
+// A block whose last transaction is repeated, under the root of the shorter list.
+const REPEATED_TRANSACTION: &str =
+    "fabfb5da4f0100000000002006226e46111a0b59caaf126043eb5bbf28c34f3a5e332a1fc7b2b73cf188910f2b9e5dbe7496ef23d6092238ba82ad4950c1507ed0a95d87cbdab23cb323b70532e8494dffff7f20020000000402000000010000000000000000000000000000000000000000000000000000000000000000ffffffff0a51080200000000000000ffffffff0100f2052a01000000015100000000020000000111111111111111111111111111111111111111111111111111111111111111110000000000ffffffff010100000000000000015100000000020000000122222222222222222222222222222222222222222222222222222222222222220000000000ffffffff010100000000000000015100000000020000000122222222222222222222222222222222222222222222222222222222222222220000000000ffffffff010100000000000000015100000000";
+
+// A block at height 2 that spends the coinbase of the block before it.
+const SPENT_TOO_EARLY: &str =
+    "fabfb5daed000000000000202ad58f5a35b905bdcfc7c3db89bc4cd5f963858508b3f1b81387060f0600bd7d2d83504597e7afae0f3d02adec599da9a52844dbc87abf1560577f8f3d97fc038aea494dffff7f20020000000202000000010000000000000000000000000000000000000000000000000000000000000000ffffffff0a52080200000000000000ffffffff0100f2052a010000001976a9147e884a6b9b449b425901971ed16af90f0a46248088ac000000000200000001dfe24dd0875cf5e37d2d5da42fea2ab817b756363c574ec1b670655db22cc7400000000000ffffffff010100000000000000015100000000";
+
+// The second frame without its last byte.
+const CUT: &str =
+    "fabfb5dab0000000000000202ad58f5a35b905bdcfc7c3db89bc4cd5f963858508b3f1b81387060f0600bd7d117cdd6d993fae3b17a3db5957ce7f01f3450a87df724d3f455f2bd08058c5eb8aea494dffff7f20000000000102000000010000000000000000000000000000000000000000000000000000000000000000ffffffff0a52080200000000000000ffffffff0100f2052a010000001976a9147e884a6b9b449b425901971ed16af90f0a46248088ac000000";
+
+// What a run with these words ends with and writes, where these calls of the streams fail.
+fn outcome(
+    alloc: Global,
+    words: &Words,
+    files: &mut MemHost,
+    input: &[u8],
+    source: &[u64],
+    sink: &[u64],
+) -> Result<(Status, MemSink), AllocError> {
+    let mut source = MemSource::new(alloc, input, source)?;
+    let mut out = MemSink::new(alloc, sink)?;
+    let status = run(alloc, words, files, &mut source, &mut out, &SALT, &LIMITS);
+    Ok((status, out))
+}
+
+// Whether a run over these files that meets no fault is done, and writes this.
+fn writes(
+    alloc: Global,
+    files: &mut MemHost,
+    input: &[u8],
+    output: &[u8],
+) -> Result<bool, AllocError> {
+    let (status, out) = outcome(alloc, &Words::new(alloc), files, input, &[], &[])?;
+    Ok(status == Status::Done && out.as_slice() == output)
+}
+
+// The number of the first input that isn't answered so on a host without files, or the number of rows.
+fn first_wrong_lines(alloc: Global, rows: &[(&[u8], &[u8])]) -> Result<usize, AllocError> {
+    for (number, (input, output)) in rows.iter().enumerate() {
+        if !writes(alloc, &mut MemHost::new(alloc, &[])?, input, output)? {
+            return Ok(number);
+        }
+    }
+    Ok(rows.len())
+}
+
+// Lines with their replies.
+#[test]
+fn lines_are_answered(rt: HostRuntime) -> Result<(), Fail> {
+    let rows: [(&[u8], &[u8]); 10] = [
+        (b"", b""),
+        (b"\n\r\n", b""),
+        (
+            b"generate 2 2 a.dat\nfold a.dat",
+            b"generated 2 0d1a5a730c31c30310b19dbadbbacab667b163e0b6431297944d26d157eafcab\nfolded 2 2 0d1a5a730c31c30310b19dbadbbacab667b163e0b6431297944d26d157eafcab 2\n",
+        ),
+        (
+            b"generate 2 101 b.dat\r\nfold b.dat\r\n",
+            b"generated 101 3b97e6088f2d81fe4150d05e13d7e57c6fb75317f46223bf12c9f132d2c03e7a\nfolded 101 101 3b97e6088f2d81fe4150d05e13d7e57c6fb75317f46223bf12c9f132d2c03e7a 102\n",
+        ),
+        (b"fold none.dat\n", b"refused host-fault\n"),
+        (b"generate 1 0 e.dat\n", b"refused bad-count\n"),
+        (b"fold\n", b"refused unknown-command\n"),
+        (b"fold a\rb\n", b"refused bad-name\n"),
+        (
+            b"info\nflush\n",
+            b"refused unknown-command\nrefused unknown-command\n",
+        ),
+        (b"import a.dat", b"refused unknown-command\n"),
+    ];
+    assert_eq!(rt; first_wrong_lines(rt.alloc(), &rows)?, 10);
+    Ok(())
+}
+
+// Bytes one after the other, from their digits.
+fn joined(alloc: Global, frames: &[&str]) -> Result<Vec<u8>, Fail> {
+    let mut bytes = Vec::new(alloc);
+    for digits in frames {
+        let frame = hex::decode(alloc, digits).ok().ok_or("no digits")?;
+        bytes.extend_from_slice(&frame)?;
+    }
+    Ok(bytes)
+}
+
+// The number of the first file whose fold isn't answered so, or the number of rows.
+fn first_wrong_folds(alloc: Global, rows: &[(&[&str], &[u8])]) -> Result<usize, Fail> {
+    for (number, (frames, reply)) in rows.iter().enumerate() {
+        let mut files = MemHost::new(alloc, &[])?;
+        files.put("a.dat", &joined(alloc, frames)?)?;
+        if !writes(alloc, &mut files, b"fold a.dat\n", reply)? {
+            return Ok(number);
+        }
+    }
+    Ok(rows.len())
+}
+
+// Files with what folding them answers.
+#[test]
+fn files_are_folded(rt: HostRuntime) -> Result<(), Fail> {
+    let rows: [(&[&str], &[u8]); 13] = [
+        (
+            &[],
+            b"folded 0 0 0f9188f13cb7b2c71f2a335e3a4fc328bf5beb436012afca590b1a11466e2206 0\n",
+        ),
+        (
+            &[GENESIS],
+            b"folded 1 0 0f9188f13cb7b2c71f2a335e3a4fc328bf5beb436012afca590b1a11466e2206 0\n",
+        ),
+        (
+            &[GENESIS, FIRST, SECOND],
+            b"folded 3 2 0d1a5a730c31c30310b19dbadbbacab667b163e0b6431297944d26d157eafcab 2\n",
+        ),
+        (
+            &[FIRST, CUT],
+            b"folded 1 1 7dbd00060f068713b8f1b308858563f9d54cbc89dbc3c7cfbd05b9355a8fd52a 1\n",
+        ),
+        (
+            &["00fabfb5da", FIRST, "fa", SECOND, "fabf"],
+            b"folded 2 2 0d1a5a730c31c30310b19dbadbbacab667b163e0b6431297944d26d157eafcab 2\n",
+        ),
+        (
+            &[SECOND],
+            b"refused not-next 0d1a5a730c31c30310b19dbadbbacab667b163e0b6431297944d26d157eafcab\n",
+        ),
+        (
+            &[FIRST, FIRST],
+            b"refused not-next 7dbd00060f068713b8f1b308858563f9d54cbc89dbc3c7cfbd05b9355a8fd52a\n",
+        ),
+        (
+            &[HIGH_HASH],
+            b"refused block fe1d9fa798bfced61643ec41c8e80bb04f34c7a25e175f0cc1bda43abe1c13e6 HighHash\n",
+        ),
+        (
+            &[VERSION_3],
+            b"refused block 42fd4d29ad2f2f0c2619591fd5cdf0d3153ba507168e4a166d57f5504091a32d BadVersion\n",
+        ),
+        (
+            &[OTHER_HEIGHT],
+            b"refused block 0e8ed558ebb186e567fce28d6d1b9f1fae3dab5dd408102bbf56ab054b814d60 BadHeight\n",
+        ),
+        (
+            &[PAYS_ONE_TOO_MUCH],
+            b"refused block 27995f3a0ef324a09010e7ac3869a1eec74e8a536ef695ccb7cef2ce6a24f002 CoinbaseAmount\n",
+        ),
+        (
+            &[REPEATED_TRANSACTION],
+            b"refused block 6ebf215e42d60aaaf258ccb80849ee1dc9f171af3b0a8224c2ffd379727b949b Mutated\n",
+        ),
+        (
+            &[FIRST, SPENT_TOO_EARLY],
+            b"refused block 532e5417dc91e481118b973017fb89ac91e012bcefc87a4b0d4a68c60a6de7e7 Immature\n",
+        ),
+    ];
+    assert_eq!(rt; first_wrong_folds(rt.alloc(), &rows)?, 13);
+    Ok(())
+}
+
+// A run that meets faults: which calls of the host, the source and the sink fail, its input, and what it ends with and
+// writes.
+#[derive(Clone, Copy)]
+struct Faulty<'a> {
+    host: &'a [u64],
+    source: &'a [u64],
+    sink: &'a [u64],
+    input: &'a [u8],
+    status: Status,
+    output: &'a [u8],
+}
+
+// The number of the first run that doesn't end so, or the number of rows.
+fn first_wrong_faults(alloc: Global, rows: &[Faulty<'_>]) -> Result<usize, AllocError> {
+    let words = Words::new(alloc);
+    for (number, row) in rows.iter().enumerate() {
+        let mut files = MemHost::new(alloc, row.host)?;
+        let (status, out) = outcome(alloc, &words, &mut files, row.input, row.source, row.sink)?;
+        if status != row.status || out.as_slice() != row.output {
+            return Ok(number);
+        }
+    }
+    Ok(rows.len())
+}
+
+// A host whose first call fails, a source that fails at its second read, and a sink that fails at once.
+#[test]
+fn faults_are_told(rt: HostRuntime) -> Result<(), Fail> {
+    let rows = [
+        Faulty {
+            host: &[1],
+            source: &[],
+            sink: &[],
+            input: b"generate 1 1 a.dat",
+            status: Status::Done,
+            output: b"refused host-fault\n",
+        },
+        Faulty {
+            host: &[],
+            source: &[2],
+            sink: &[],
+            input: b"fold a.dat\n",
+            status: Status::InFault,
+            output: b"refused host-fault\n",
+        },
+        Faulty {
+            host: &[],
+            source: &[],
+            sink: &[1],
+            input: b"fold a.dat\n",
+            status: Status::OutFault,
+            output: b"",
+        },
+    ];
+    assert_eq!(rt; first_wrong_faults(rt.alloc(), &rows)?, 3);
+    Ok(())
+}
+
+// What a run with one word ends with.
+fn status_with(alloc: Global, word: &str) -> Result<Status, AllocError> {
+    let mut words = Words::new(alloc);
+    words.push(word)?;
+    let (status, _) = outcome(alloc, &words, &mut MemHost::new(alloc, &[])?, b"", &[], &[])?;
+    Ok(status)
+}
+
+// So many bytes, and others behind them.
+fn repeated(alloc: Global, byte: u8, count: usize, end: &[u8]) -> Result<Vec<u8>, AllocError> {
+    let mut bytes = vec![in alloc; byte; count]?;
+    bytes.extend_from_slice(end)?;
+    Ok(bytes)
+}
+
+// Lines of 4,096 and of 4,097 bytes, inputs of 16,777,216 bytes and of one more, and words.
+#[test]
+fn lengths_are_limited(rt: HostRuntime) -> Result<(), Fail> {
+    let alloc = rt.alloc();
+    let mut files = MemHost::new(alloc, &[])?;
+    let line = repeated(alloc, b'x', 4096, b"\n")?;
+    assert!(rt; writes(alloc, &mut files, &line, b"refused unknown-command\n")?);
+    let line = repeated(alloc, b'x', 4097, b"\r\ncoins\n")?;
+    assert!(rt;
+        writes(
+            alloc,
+            &mut files,
+            &line,
+            b"refused line-too-long\nrefused unknown-command\n"
+        )?
+    );
+    let input = repeated(alloc, b'\n', 16_777_216, b"")?;
+    assert!(rt; writes(alloc, &mut files, &input, b"")?);
+    let input = repeated(alloc, b'\n', 16_777_216, b"\n")?;
+    let (status, out) = outcome(alloc, &Words::new(alloc), &mut files, &input, &[], &[])?;
+    assert_eq!(rt; status, Status::TooLong);
+    assert!(rt; out.as_slice().is_empty());
+    assert_eq!(rt; status_with(alloc, "--quick")?, Status::Usage);
+    Ok(())
+}

@@ -5,6 +5,6 @@ use Rattle.snapshot_file.proofs.reader.Reader.new.Goals as goal
 pub returns : goal.returns
 returns c = record {
   bytes = λ i. omega arith;
-  count = omega (arith, ap length c.new.ensures.items);
-  stands = record { all = c.new.ensures.items; no_height = refl; waits = head_none };
+  count = omega (arith, ap length c.in_ok-with_capacity.ensures.items);
+  stands = record { all = c.in_ok-with_capacity.ensures.items; no_height = refl; waits = head_none };
 }

@@ -28,8 +28,16 @@ returns-in_err-hash-clause-ends c =
     let ends = subst (λ (s : FoldState). EndsFold (with_block s.limit s.folded block) c.in_err-hash.field-0.0) c.self.view_is (header_exit f.tree c.accept.new.tree f.coins f.tip f.passed block c.in_err-hash.field-0.0 same c.in_err-hash.ensures) in
     rw (p.1, p.2) ends
 
-pub check-requires : goal.check-requires
-check-requires c =
+pub invariant_of-self-in_err-txids : goal.invariant_of-self-in_err-txids
+invariant_of-self-in_err-txids c =
+    let f = c.self.inside in (
+      grown_order f.tree c.accept.new.tree c.args.block.now c.in_ok-hash.hash c.in_ok-hash.ensures,
+      kept_known f.tree c.accept.new.tree c.args.block.now c.in_ok-hash.hash f.tip c.self.invariant.1 c.in_ok-hash.ensures,
+      c.self.invariant.2,
+    )
+
+pub check-requires-clause-parent : goal.check-requires-clause-parent
+check-requires-clause-parent c =
     let f = c.self.inside in
     let block = c.args.block.now in
     let same = not_not c.ne.result (same_hash block.header.prev f.tip) c.ne.ensures c.if-ne.false in
@@ -52,8 +60,8 @@ returns-in_err-check-clause-ends c =
     let ends = subst (λ (s : FoldState). EndsFold (with_block s.limit s.folded block) c.in_err-check.field-0.0) c.self.view_is (body_exit f.tree c.accept.new.tree f.coins f.tip f.passed block c.in_ok-hash.hash c.in_err-check.field-0.0 same c.in_ok-hash.ensures c.in_err-check.ensures) in
     rw (p.1, p.2) ends
 
-pub apply-requires : goal.apply-requires
-apply-requires c = record { known = new_known c.self.inside.tree c.accept.new.tree c.args.block.now c.in_ok-hash.hash c.in_ok-hash.ensures; sound = c.in_ok-check.ensures }
+pub apply-requires-clause-stands : goal.apply-requires-clause-stands
+apply-requires-clause-stands c = record { known = new_known c.self.inside.tree c.accept.new.tree c.args.block.now c.in_ok-hash.hash c.in_ok-hash.ensures; sound = c.in_ok-check.ensures }
 
 pub invariant_of-self-in_err-apply : goal.invariant_of-self-in_err-apply
 invariant_of-self-in_err-apply c =

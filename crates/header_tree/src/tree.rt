@@ -108,7 +108,7 @@ impl Tree {
         &self.rules
     }
 
-    /// The number of a hash in the order of acceptance. The last one is asked for most, since headers mostly come in
+    /// The number of a hash in the order of acceptance. The last two are asked for most, since headers mostly come in
     /// the order of a chain.
     pub(crate) fn number(&self, hash: &Hash32) -> Option<u32>
         ensures there { IfSome result (λ number. slice_get self.now.order number ≡ Some hash.now) }
@@ -116,10 +116,13 @@ impl Tree {
     {
         let last = self.entries.len() - 1;
         if self.entries[last].hash == *hash {
-            Some(last as u32)
-        } else {
-            self.numbers.get(hash)
+            return Some(last as u32);
         }
+        let before = last.saturating_sub(1);
+        if self.entries[before].hash == *hash {
+            return Some(before as u32);
+        }
+        self.numbers.get(hash)
     }
 
     /// The header of this hash.
@@ -136,8 +139,8 @@ impl Tree {
     pub fn height(&self, hash: &Hash32) -> Option<u32>
         ensures { result ≡ of_member self.now.tree.headers hash.now (height_of self.now.tree.headers hash.now) }
     {
-        match self.numbers.get(hash) {
-            Some(number) => Some(self.entries[number as usize].height),
+        match self.number(hash) {
+            Some(number) => Some(self.height_at(number)),
             None => None,
         }
     }

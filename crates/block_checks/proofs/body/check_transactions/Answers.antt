@@ -1,5 +1,4 @@
-use Rattle.std.proofs.Common.{map, ap, ◌∙◌, sym, arith}
-use Rattle.std.specs.declared.result.Result.TheVariants.{Err}
+use Rattle.std.proofs.Common.{map, arith}
 use Rattle.std.proofs.lemmas.Result.{err_from_is_err_and}
 use Rattle.chain_model.specs.Rules.{first_some}
 use Rattle.chain_model.specs.BodyRules.{tx_broken}

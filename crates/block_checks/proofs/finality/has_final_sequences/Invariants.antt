@@ -1,5 +1,5 @@
-use Rattle.std.proofs.Common.{◌≡◌, drop, ◌||◌, ◌==◌, nat_lt, length, not}
-use Rattle.std.specs.List.{list_any, list_all}
+use Rattle.std.proofs.Common.{◌≡◌, drop, ◌==◌}
+use Rattle.std.specs.List.{list_all}
 use Rattle.block_checks.proofs.finality.has_final_sequences.Given as goal
 
 abbrev pub invariant-loop-input : goal.invariant-loop-input

@@ -1,4 +1,4 @@
-use Rattle.std.proofs.Common.{◌≡◌, ◌<◌, ℕ, [], ◌∷◌, ◌++◌, List, ◌-◌, ◌/◌, ◌%◌, ap, ◌∙◌, sym, arith}
+use Rattle.std.proofs.Common.{◌≡◌, ℕ, [], ◌∷◌, ◌++◌, List, ◌-◌, ◌/◌, ◌%◌, ap, ◌∙◌, sym, arith}
 use Rattle.std.proofs.lemmas.List.{append_assoc, append-nil}
 use Rattle.chain_model.specs.BodyRules.{least_bytes}
 use Rattle.block_checks.proofs.Pushes.{one_more, no_more, of_zero}

@@ -1,4 +1,4 @@
-use Rattle.std.proofs.Common.{◌≡◌, suc, ◌-◌, length, [], List, ℕ, ap, ◌∙◌, sym, arith}
+use Rattle.std.proofs.Common.{◌≡◌, ◌-◌, length, [], ap, ◌∙◌, sym, arith}
 use Rattle.std.proofs.lemmas.List.{nil_from_length}
 use Rattle.chain_model.specs.BodyRules.{without_sign}
 use Rattle.block_checks.proofs.Pushes.{signed, unsigned_none}

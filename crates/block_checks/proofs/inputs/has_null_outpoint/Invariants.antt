@@ -1,5 +1,5 @@
-use Rattle.std.proofs.Common.{◌≡◌, drop, ◌||◌, ◌==◌, nat_lt, length, not}
-use Rattle.std.specs.List.{list_any, list_all}
+use Rattle.std.proofs.Common.{◌≡◌, drop}
+use Rattle.std.specs.List.{list_any}
 use Rattle.block_codec.specs.Text.{names_nothing}
 use Rattle.block_checks.proofs.inputs.has_null_outpoint.Given as goal
 

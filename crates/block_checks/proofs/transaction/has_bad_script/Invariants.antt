@@ -1,6 +1,5 @@
-use Rattle.std.proofs.Common.{◌≡◌, drop, ◌||◌, ◌==◌, nat_lt, length, not}
-use Rattle.std.specs.List.{list_any, list_all}
-use Rattle.block_codec.specs.declared.block.TxIn.{TxIn}
+use Rattle.std.proofs.Common.{◌≡◌, drop, ◌||◌, nat_lt, length}
+use Rattle.std.specs.List.{list_any}
 use Rattle.block_checks.proofs.transaction.has_bad_script.Given as goal
 
 abbrev pub invariant-loop-input : goal.invariant-loop-input

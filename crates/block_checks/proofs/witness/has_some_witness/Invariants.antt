@@ -1,5 +1,5 @@
-use Rattle.std.proofs.Common.{◌≡◌, drop, ◌||◌, ◌==◌, nat_lt, length, not}
-use Rattle.std.specs.List.{list_any, list_all}
+use Rattle.std.proofs.Common.{◌≡◌, drop}
+use Rattle.std.specs.List.{list_any}
 use Rattle.block_codec.specs.Text.{has_witness}
 use Rattle.block_checks.proofs.witness.has_some_witness.Given as goal
 

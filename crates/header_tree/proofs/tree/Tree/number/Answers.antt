@@ -27,11 +27,29 @@ returns-then-eq-clause-known c =
     subst (λ (s : State). true ≡ finite.contains_key s.tree.headers c.args.hash.now) c.self.view_is
     (known_at c.self.inside.entries.items c.self.inside.numbers c.self.inside.limit c.self.inside.rules c.self.invariant n c.index.result.now at ∙ ap (finite.contains_key (headers_of c.self.inside.entries.items)) is)
 
-pub returns-else-eq-clause-there : goal.returns-else-eq-clause-there
-returns-else-eq-clause-there c =
+pub returns-then-eq-2-clause-there : goal.returns-then-eq-2-clause-there
+returns-then-eq-2-clause-there c =
+    let some = c.self.invariant.some in
+    let n = c.saturating_sub-before.result in
+    let at = read_at c.self.inside.entries.items c.self.inside.numbers c.self.inside.limit c.self.inside.rules c.self.invariant n c.index-2.result.now (omega arith) c.index-2.ensures in
+    let is = same_true c.index-2.result.now.hash c.args.hash.now (sym c.eq-2.ensures ∙ c.if-eq-2.true) in
+    subst (λ (s : State). slice_get s.order n ≡ Some c.args.hash.now) c.self.view_is
+    (order_at c.self.inside.entries.items c.self.inside.numbers c.self.inside.limit c.self.inside.rules c.self.invariant n c.index-2.result.now at ∙ ap (λ (h : Hash32). Some h) is)
+
+pub returns-then-eq-2-clause-known : goal.returns-then-eq-2-clause-known
+returns-then-eq-2-clause-known c =
+    let some = c.self.invariant.some in
+    let n = c.saturating_sub-before.result in
+    let at = read_at c.self.inside.entries.items c.self.inside.numbers c.self.inside.limit c.self.inside.rules c.self.invariant n c.index-2.result.now (omega arith) c.index-2.ensures in
+    let is = same_true c.index-2.result.now.hash c.args.hash.now (sym c.eq-2.ensures ∙ c.if-eq-2.true) in
+    subst (λ (s : State). true ≡ finite.contains_key s.tree.headers c.args.hash.now) c.self.view_is
+    (known_at c.self.inside.entries.items c.self.inside.numbers c.self.inside.limit c.self.inside.rules c.self.invariant n c.index-2.result.now at ∙ ap (finite.contains_key (headers_of c.self.inside.entries.items)) is)
+
+pub returns-clause-there : goal.returns-clause-there
+returns-clause-there c =
     sees_ordered c.self.inside.entries.items c.self.inside.numbers c.self.inside.limit c.self.inside.rules c.self.invariant c.args.self.now c.self.view_is c.args.hash.now c.get.result c.get.ensures
 
-pub returns-else-eq-clause-known : goal.returns-else-eq-clause-known
-returns-else-eq-clause-known c =
+pub returns-clause-known : goal.returns-clause-known
+returns-clause-known c =
     subst (λ (s : State). is_some c.get.result ≡ finite.contains_key s.tree.headers c.args.hash.now) c.self.view_is
     (ap is_some c.get.ensures ∙ known c.self.inside.entries.items c.self.inside.numbers c.self.inside.limit c.self.inside.rules c.self.invariant c.args.hash.now)

@@ -1,6 +1,6 @@
 -- Beginning and ending the created file.
-use Rattle.std.proofs.Common.{◌≡◌, ℕ, List, [], refl, sym, ap, subst, ◌∙◌}
-use Rattle.std.specs.Prelude.{Option, Some, None, Result, Ok, Err, is_err, ⊤, true, false}
+use Rattle.std.proofs.Common.{◌≡◌, ℕ, List, [], ap, subst, ◌∙◌}
+use Rattle.std.specs.Prelude.{Option, Some, None, Result, Ok, Err, is_err, ⊤, false}
 use Rattle.std.specs.FinMap.{get}
 use Rattle.base_types.specs.declared.hash.Hash32.{Hash32}
 use Rattle.io_traits.specs.Host.{Held, Creates, Finishes, Spoils, ChangesOnly}

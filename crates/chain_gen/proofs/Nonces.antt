@@ -1,6 +1,6 @@
 -- Trying nonces in their order.
-use Rattle.std.proofs.Common.{◌≡◌, ◌<◌, ◌≤◌, ◌+◌, ◌-◌, ◌^◌, ℕ, zero, suc, Bool, true, false, refl, sym, ap, ◌∙◌, arith}
-use Rattle.std.specs.Prelude.{Option, Some, None, if◌then◌else◌}
+use Rattle.std.proofs.Common.{◌≡◌, ◌<◌, ◌≤◌, ◌+◌, ◌-◌, ℕ, suc, Bool, true, false, refl, ap, ◌∙◌, arith}
+use Rattle.std.specs.Prelude.{Some, None, if◌then◌else◌}
 use Rattle.block_codec.specs.declared.block.Header.{Header}
 use Rattle.chain_model.specs.Generated.{least_nonce, with_nonce, meets_target}
 

@@ -1,6 +1,4 @@
-use Rattle.std.proofs.Common.{List, ℕ, [], sym, ◌∙◌}
-use Rattle.std.specs.Prelude.{None}
-use Rattle.io_traits.specs.Host.{Held, ChangesOnly}
+use Rattle.std.proofs.Common.{[], sym, ◌∙◌}
 use Rattle.io_traits.specs.HostRuns.{IsMade}
 use Rattle.io_traits.specs.Told.{OnTold}
 use Rattle.chain_model.specs.Generated.{chain, file_text}

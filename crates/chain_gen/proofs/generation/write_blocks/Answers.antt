@@ -1,13 +1,8 @@
-use Rattle.std.proofs.Common.{◌≡◌, ◌<◌, ◌≤◌, ◌+◌, ℕ, List, [], sym, ap, ◌∙◌, subst, arith, rules}
-use Rattle.std.specs.Prelude.{Option, Some, Ok, Err}
+use Rattle.std.proofs.Common.{◌≡◌, sym, ◌∙◌, arith}
 use Rattle.std.proofs.lemmas.Result.{err_from_is_err_and}
-use Rattle.io_traits.specs.Host.{Held, Grows, Spoils, Writes}
-use Rattle.io_traits.specs.HostRuns.{IsMade}
+use Rattle.io_traits.specs.Host.{Grows, Spoils}
 use Rattle.io_traits.specs.Told.{OnTold}
-use Rattle.chain_model.specs.Generated.{chain, tip_of, file_text}
-use Rattle.chain_gen.specs.Chains.{blocks_of}
-use Rattle.chain_gen.specs.Made.{IsTip, Leaves}
-use Rattle.chain_gen.proofs.Making.{Making, Making-none, Making-next, failed_tip, failed_file, cut_off, cut_off_by, write_done, write_failed}
+use Rattle.chain_gen.proofs.Making.{Making-none, Making-next, failed_tip, failed_file, cut_off, cut_off_by, write_done, write_failed}
 use Rattle.chain_gen.proofs.generation.write_blocks.Goals as goal
 
 pub loop-below-init : goal.loop-below-init

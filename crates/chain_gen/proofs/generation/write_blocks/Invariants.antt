@@ -1,10 +1,4 @@
-use Rattle.std.proofs.Common.{◌≡◌, ◌≤◌, ℕ, List, []}
-use Rattle.std.specs.Prelude.{Option, Ok}
-use Rattle.block_codec.specs.declared.block.Block.{Block}
-use Rattle.io_traits.specs.Host.{Held}
-use Rattle.io_traits.specs.HostRuns.{IsMade}
-use Rattle.io_traits.specs.Told.{OnTold}
-use Rattle.chain_model.specs.Generated.{chain, tip_of, file_text}
+use Rattle.std.proofs.Common.{◌≤◌}
 use Rattle.chain_gen.proofs.Making.{Making}
 use Rattle.chain_gen.proofs.generation.write_blocks.Given as goal
 

@@ -1,9 +1,8 @@
-use Rattle.std.proofs.Common.{◌≡◌, ◌<◌, ◌≤◌, ◌+◌, ◌^◌, ℕ, true, false, leb, sym, ap, ◌∙◌, arith}
+use Rattle.std.proofs.Common.{◌≡◌, ◌+◌, ◌^◌, true, false, leb, sym, ap, ◌∙◌, arith}
 use Rattle.base_types.specs.declared.hash.Hash32.{Hash32}
 use Rattle.block_codec.specs.declared.block.Header.{Header}
-use Rattle.block_codec.specs.Text.{hash_of_header}
 use Rattle.chain_model.specs.HeaderRules.{number_of, target}
-use Rattle.chain_model.specs.Generated.{least_nonce, with_nonce, meets_target}
+use Rattle.chain_model.specs.Generated.{with_nonce, meets_target}
 use Rattle.chain_gen.proofs.Nonces.{nonce_found, nonce_passed, no_nonce}
 use Rattle.chain_gen.proofs.mining.mine.Goals as goal
 

@@ -1,5 +1,4 @@
-use Rattle.std.proofs.Common.{◌≡◌, ◌-◌, ◌^◌, ℕ}
-use Rattle.block_codec.specs.declared.block.Header.{Header}
+use Rattle.std.proofs.Common.{◌≡◌, ◌-◌, ◌^◌}
 use Rattle.chain_model.specs.Generated.{least_nonce, with_nonce}
 use Rattle.chain_gen.proofs.mining.mine.Given as goal
 

@@ -1,5 +1,5 @@
 use Rattle.std.proofs.Common.{List, ℕ, [], ◌++◌, ap, ◌∙◌}
-use Rattle.std.specs.Int.{w32, w64}
+use Rattle.std.specs.Int.{w64}
 use Rattle.sha2.specs.Sha256.{sha256}
 use Rattle.base_types.specs.Bytes.{number_text}
 use Rattle.chain_gen.proofs.scripts.seed.Goals as goal

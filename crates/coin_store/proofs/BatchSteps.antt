@@ -1,22 +1,28 @@
--- One row after the other: the places so far, and what was read so far.
-use Rattle.std.specs.Prelude.{◌≡◌, ℕ, ◌+◌, ◌-◌, ◌<◌, ◌≤◌, List, [], ◌∷◌, ◌++◌, length, take, drop, Some, None, refl}
-use Rattle.std.specs.List.{AllByRecursion}
+-- One row after the other: the places so far, and what was read so far; and then whole payloads.
+use Rattle.std.specs.Prelude.{◌≡◌, ℕ, ◌+◌, ◌-◌, ◌<◌, ◌≤◌, Bool, true, false, ◌&&◌, is_some, nat_lt, List, [], ◌∷◌, ◌++◌, length, take, drop, Option, Some, None, refl}
+use Rattle.std.specs.List.{list_all, AllByRecursion}
 use Rattle.std.specs.FinMap.{insert, remove}
-use Rattle.std.proofs.Common.{sym, ap, ◌∙◌, append_assoc, arith}
+use Rattle.std.proofs.Common.{sym, ap, subst, ◌∙◌, append_assoc, arith}
+use Rattle.std.proofs.lemmas.Bool.Decides.{nat_tests}
+use Rattle.std.proofs.lemmas.List.Folds.{list_all-append}
 use Rattle.std.proofs.lemmas.List.{length-append, length-take, length-drop, drop_at, drop_all, drop-drop, take_all}
 use Rattle.std.proofs.lemmas.List.Concat.{flat_map-append}
 use borrow.Rule.Slice.PartMut.{put_mid, same_len_mid}
+use Rattle.base_types.specs.declared.coin.Coin.{Coin}
+use Rattle.base_types.specs.declared.hash.OutPoint.{OutPoint}
 use Rattle.coin_codec.specs.KeyText.{key_text}
 use Rattle.coin_store.specs.declared.marker.Marker.{Marker}
 use Rattle.coin_store.specs.declared.places.CoinPlace.{CoinPlace}
 use Rattle.coin_store.specs.declared.row.RowHead.{RowHead}
 use Rattle.coin_store.specs.declared.row.RowFault.{RowFault}
 use Rattle.coin_store.specs.declared.row.RowFault.TheVariants.{NoMemory, Broken}
-use Rattle.coin_store.specs.Batches.{Row, covered, value_text, head_text, row_text, rows_text, marker_text, batch_text, RowFits}
-use Rattle.coin_store.specs.BatchLaws.{marker_takes, batch_stuck}
-use Rattle.coin_store.specs.BatchReads.{NotesRow, HasBatch, IsReadTo}
+use Rattle.coin_store.specs.Base.{has_coin, base_of}
+use Rattle.coin_store.specs.BaseLaws.{base_short, base_stuck}
+use Rattle.coin_store.specs.Batches.{Row, covered, value_text, head_text, row_text, rows_text, marker_text, batch_text, RowFits, ValueFits}
+use Rattle.coin_store.specs.BatchLaws.{marker_takes, rows_stuck, batch_stuck}
+use Rattle.coin_store.specs.BatchReads.{NotesRow, HasRows, HasBatch, HasBaseRows, IsReadTo}
 use Rattle.coin_store.specs.Places.{CoinPlaces, put, place_of, places_after_rows}
-use Rattle.coin_store.specs.Reading.{marker_of, row_of, batch_of}
+use Rattle.coin_store.specs.Reading.{marker_of, row_of, rows_of, batch_of}
 use Rattle.coin_store.specs.RowLaws.{length-coin_text, length-covered}
 use Rattle.coin_store.specs.Rows.{IsRow, IsBroken, IsBrokenBy}
 
@@ -67,24 +73,28 @@ length_row : (mask : List ℕ) (row : Row) → length (row_text mask row) ≡ le
 unfolding row_text
 length_row mask row = omega (arith, length-append (head_text row.key (length (value_text row.coin))) (covered mask (value_text row.coin)), length-covered 0 mask (value_text row.coin))
 
-module _ (file gate : ℕ) (mask payload : List ℕ) (marker : Marker) (old : CoinPlaces) where
-  pub read_none : (rest : List ℕ) (at : ℕ) → marker_of payload ≡ Some (marker, rest) → at ≡ length payload - length rest → IsReadTo file gate mask payload marker at old old
-  read_none rest at is reach =
-      let t = marker_takes payload marker rest is in
-      let begins : at ≡ length (marker_text marker) = omega (arith, reach, ap length t.0, length-append (marker_text marker) rest) in
-      let behind : drop at payload ≡ rest = ap (λ (n : ℕ). drop n payload) begins ∙ ap (λ (b : List ℕ). drop (length (marker_text marker)) b) t.0 ∙ drop_at (marker_text marker) rest (length (marker_text marker)) refl in
-      record {
-        rows = [];
-        marked = t.1;
-        fit = tt;
-        parts = t.0 ∙ ap (λ (b : List ℕ). marker_text marker ++ b) (sym behind);
-        reach = begins ∙ zero_more (length (marker_text marker));
-        places = refl;
-      }
+-- a row has a coin where its coin has bytes
+coin_some : (coin : Option Coin) (n : ℕ) → ValueFits coin → n ≡ length (value_text coin) → nat_lt 0 n ≡ is_some coin
+unfolding value_text
+coin_some None n fits e = ap (nat_lt 0) e
+coin_some (Some coin) n fits e = lt_true 0 n (omega (arith, e, (length-coin_text coin fits).0)) where
+  lt_true : (a b : ℕ) → a < b → nat_lt a b ≡ true
+  lt_true a b h = grind (arith, nat_tests)
 
-  pub read_more : (at : ℕ) (before after : CoinPlaces) (row : RowHead) → IsReadTo file gate mask payload marker at old before → IsRow mask (drop at payload) row → NotesRow file gate at row before after
-      → IsReadTo file gate mask payload marker (at + (row.from + row.len)) old after
-  read_more at before after row r this notes =
+only_that : (b : Bool) → (b && true) ≡ b
+only_that true = refl
+only_that false = refl
+
+each_push : (rows : List Row) (row : Row) → list_all has_coin (rows ++ row ∷ []) ≡ (list_all has_coin rows && has_coin row)
+each_push rows row = list_all-append has_coin rows (row ∷ []) ∙ ap (λ (b : Bool). list_all has_coin rows && b) (only_that (has_coin row))
+
+module _ (file gate : ℕ) (mask payload : List ℕ) (start : ℕ) (old : CoinPlaces) where
+  pub read_none : IsReadTo file gate mask payload start start old old true
+  read_none = record { rows = []; fit = tt; parts = refl; reach = zero_more start; places = refl; each = refl }
+
+  pub read_more : (at : ℕ) (before after : CoinPlaces) (so_far coins : Bool) (row : RowHead) → IsReadTo file gate mask payload start at old before so_far → IsRow mask (drop at payload) row → NotesRow file gate at row before after
+      → coins ≡ (so_far && nat_lt 0 row.len) → IsReadTo file gate mask payload start (at + (row.from + row.len)) old after coins
+  read_more at before after so_far coins row r this notes has =
       let whole : Row = record { key = row.key; coin = this.coin } in
       let behind = drop (row.from + row.len) (drop at payload) in
       let front = rows_text mask r.rows in
@@ -93,35 +103,82 @@ module _ (file gate : ℕ) (mask payload : List ℕ) (marker : Marker) (old : Co
       let further : behind ≡ drop (at + (row.from + row.len)) payload = drop-drop (row.from + row.len) at payload in
       record {
         rows = r.rows ++ whole ∷ [];
-        marked = r.marked;
         fit = all_push r.rows whole r.fit this.fits;
         parts = r.parts
-            ∙ ap (λ (b : List ℕ). marker_text marker ++ (front ++ b)) this.parts
-            ∙ ap (λ (b : List ℕ). marker_text marker ++ b) (sym (append_assoc front (row_text mask whole) behind))
-            ∙ ap (λ (b : List ℕ). marker_text marker ++ (b ++ behind)) (sym (text_push mask r.rows whole))
-            ∙ ap (λ (b : List ℕ). marker_text marker ++ (rows_text mask (r.rows ++ whole ∷ []) ++ b)) further;
+            ∙ ap (λ (b : List ℕ). front ++ b) this.parts
+            ∙ sym (append_assoc front (row_text mask whole) behind)
+            ∙ ap (λ (b : List ℕ). b ++ behind) (sym (text_push mask r.rows whole))
+            ∙ ap (λ (b : List ℕ). rows_text mask (r.rows ++ whole ∷ []) ++ b) further;
         reach = omega (arith, r.reach, size, ap length (text_push mask r.rows whole), length-append front (row_text mask whole));
         places = notes this.coin this.fits.value this.len this.from
             ∙ ap (λ (p : CoinPlaces). put p row.key (place_of file gate at whole)) r.places
-            ∙ ap (λ (n : ℕ). put (places_after_rows file mask gate (length (marker_text marker)) old r.rows) row.key (place_of file gate n whole)) r.reach
-            ∙ sym (places_push file mask gate (length (marker_text marker)) old r.rows whole);
+            ∙ ap (λ (n : ℕ). put (places_after_rows file mask gate start old r.rows) row.key (place_of file gate n whole)) r.reach
+            ∙ sym (places_push file mask gate start old r.rows whole);
+        each = has
+            ∙ ap (λ (b : Bool). b && nat_lt 0 row.len) r.each
+            ∙ ap (λ (b : Bool). list_all has_coin r.rows && b) (coin_some this.coin row.len this.fits.value this.len)
+            ∙ sym (each_push r.rows whole);
       }
 
-  pub read_all : (at : ℕ) (new : CoinPlaces) → IsReadTo file gate mask payload marker at old new → length payload ≤ at → HasBatch file gate mask payload old new marker
+  pub read_all : (at : ℕ) (new : CoinPlaces) (coins : Bool) → IsReadTo file gate mask payload start at old new coins → length payload ≤ at → HasRows file gate start mask (drop start payload) old new coins
+  read_all at new coins r over = record {
+    rows = r.rows;
+    is = r.parts ∙ ap (λ (b : List ℕ). rows_text mask r.rows ++ b) (drop_all at payload over) ∙ append_nil (rows_text mask r.rows);
+    fit = r.fit;
+    places = r.places;
+    each = r.each;
+  }
+
+  pub read_stuck : (at : ℕ) (new : CoinPlaces) (coins : Bool) → IsReadTo file gate mask payload start at old new coins → at < length payload → row_of mask (drop at payload) ≡ None
+      → rows_of mask (length (drop start payload)) (drop start payload) ≡ None
+  read_stuck at new coins r within stuck =
+      let rest = drop start payload in
+      ap (λ (b : List ℕ). rows_of mask (length rest) b) r.parts ∙ rows_stuck mask r.rows (drop at payload) (length rest) r.fit (omega (arith, within, length-drop at payload)) stuck
+
+  pub faulty_rows : (at : ℕ) (new : CoinPlaces) (coins : Bool) → IsReadTo file gate mask payload start at old new coins → at < length payload → (part : List ℕ) → part ≡ drop at payload → (fault : RowFault) → IsBroken mask part fault
+      → IsBrokenBy (rows_of mask (length (drop start payload)) (drop start payload) ≡ None) fault
+  faulty_rows at new coins r within part is NoMemory b = tt
+  faulty_rows at new coins r within part is Broken b = read_stuck at new coins r within (ap (row_of mask) (sym is) ∙ b)
+
+-- ---- a payload
+
+-- what stands behind a marker
+behind_marker : (payload : List ℕ) (marker : Marker) (rest : List ℕ) (start : ℕ) → marker_of payload ≡ Some (marker, rest) → start ≡ length payload - length rest → (start ≡ length (marker_text marker)) × (drop start payload ≡ rest)
+behind_marker payload marker rest start is reach =
+    let t = marker_takes payload marker rest is in
+    let begins : start ≡ length (marker_text marker) = omega (arith, reach, ap length t.0, length-append (marker_text marker) rest) in
+    (begins, ap (λ (n : ℕ). drop n payload) begins ∙ ap (λ (b : List ℕ). drop (length (marker_text marker)) b) t.0 ∙ drop_at (marker_text marker) rest (length (marker_text marker)) refl)
+
+module _ (file gate : ℕ) (mask payload : List ℕ) (old new : CoinPlaces) where
+  pub batch_read : (marker : Marker) (rest : List ℕ) (start : ℕ) (coins : Bool) → marker_of payload ≡ Some (marker, rest) → start ≡ length payload - length rest → HasRows file gate start mask (drop start payload) old new coins
+      → HasBatch file gate mask payload old new marker
   unfolding batch_text
-  read_all at new r over =
-      let front = rows_text mask r.rows in
+  batch_read marker rest start coins is reach h =
+      let t = marker_takes payload marker rest is in
+      let b = behind_marker payload marker rest start is reach in
       record {
-        batch = record { marker = marker; rows = r.rows };
-        is = r.parts ∙ ap (λ (b : List ℕ). marker_text marker ++ (front ++ b)) (drop_all at payload over) ∙ ap (λ (b : List ℕ). marker_text marker ++ b) (append_nil front);
-        fits = record { marker = r.marked; rows = r.fit };
+        batch = record { marker = marker; rows = h.rows };
+        is = t.0 ∙ ap (λ (b : List ℕ). marker_text marker ++ b) (sym b.1 ∙ h.is);
+        fits = record { marker = t.1; rows = h.fit };
         marked = refl;
-        places = r.places;
+        places = h.places ∙ ap (λ (n : ℕ). places_after_rows file mask gate n old h.rows) b.0;
       }
 
-  pub read_stuck : (at : ℕ) (new : CoinPlaces) → IsReadTo file gate mask payload marker at old new → at < length payload → row_of mask (drop at payload) ≡ None → batch_of mask payload ≡ None
-  read_stuck at new r within stuck =
-      ap (λ (b : List ℕ). batch_of mask b) r.parts ∙ batch_stuck mask marker r.rows (drop at payload) r.marked r.fit (omega (arith, length-drop at payload)) stuck
+  pub base_read : HasRows file gate 0 mask payload old new true → HasBaseRows file gate mask payload old new
+  base_read h = record { rows = h.rows; is = h.is; fits = record { fit = h.fit; coins = sym h.each }; places = h.places }
+
+  pub base_bare : HasRows file gate 0 mask payload old new false → base_of mask payload ≡ None
+  base_bare h = ap (base_of mask) h.is ∙ base_short mask h.rows h.fit (sym h.each)
+
+pub batch_faulty : (mask payload : List ℕ) (marker : Marker) (rest : List ℕ) (start : ℕ) → marker_of payload ≡ Some (marker, rest) → start ≡ length payload - length rest
+    → (fault : RowFault) → IsBrokenBy (rows_of mask (length (drop start payload)) (drop start payload) ≡ None) fault → IsBrokenBy (batch_of mask payload ≡ None) fault
+batch_faulty mask payload marker rest start is reach NoMemory b = tt
+batch_faulty mask payload marker rest start is reach Broken b =
+    batch_stuck mask payload rest marker is (subst (λ (r : List ℕ). rows_of mask (length r) r ≡ None) (behind_marker payload marker rest start is reach).1 b)
+
+pub base_faulty : (mask payload : List ℕ) (fault : RowFault) → IsBrokenBy (rows_of mask (length payload) payload ≡ None) fault → IsBrokenBy (base_of mask payload ≡ None) fault
+base_faulty mask payload NoMemory b = tt
+base_faulty mask payload Broken b = base_stuck mask payload b
 
 -- ---- a row is uncovered where it stands
 
@@ -149,8 +206,3 @@ nearer_end at n now bytes within some size = omega (arith, same_len_mid at (leng
 
 pub part_is : (at : ℕ) (old now : List ℕ) → drop at now ≡ drop at old → take (length now - at) (drop at now) ≡ drop at old
 part_is at old now behind = take_all (length now - at) (drop at now) (omega (arith, length-drop at now)) ∙ behind
-
-pub faulty_batch : (file gate : ℕ) (mask payload : List ℕ) (marker : Marker) (old : CoinPlaces) (at : ℕ) (new : CoinPlaces) → IsReadTo file gate mask payload marker at old new → at < length payload
-    → (part : List ℕ) → part ≡ drop at payload → (fault : RowFault) → IsBroken mask part fault → IsBrokenBy (batch_of mask payload ≡ None) fault
-faulty_batch file gate mask payload marker old at new r within part is NoMemory b = tt
-faulty_batch file gate mask payload marker old at new r within part is Broken b = read_stuck file gate mask payload marker old at new r within (ap (row_of mask) (sym is) ∙ b)

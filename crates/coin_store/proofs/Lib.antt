@@ -9,4 +9,5 @@ pub mod Ordering
 pub mod Payloads
 pub mod Scanning
 pub mod StagedBytes
+pub mod TwoFiles
 pub mod Vacant

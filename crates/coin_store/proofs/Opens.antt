@@ -1,5 +1,5 @@
 -- Opening a log, and then reading it.
-use Rattle.std.specs.Prelude.{◌≡◌, ℕ, zero, suc, ◌+◌, ◌-◌, ◌*◌, ◌<◌, ◌≤◌, List, [], ◌∷◌, ◌++◌, length, sum_by, slice_get, nat_le, Bool, true, false, Option, Some, None, Result, Ok, refl}
+use Rattle.std.specs.Prelude.{◌≡◌, ◌≢◌, ℕ, zero, suc, ◌+◌, ◌-◌, ◌*◌, ◌<◌, ◌≤◌, List, [], ◌∷◌, ◌++◌, length, sum_by, slice_get, nat_le, Bool, true, false, Option, Some, None, Result, Ok, refl}
 use Rattle.std.specs.FinMap.{get, empty, get-empty, get-insert, get-remove}
 use Rattle.std.specs.List.{AllByRecursion}
 use Rattle.std.specs.Ordering.{eq_by_cmp}
@@ -8,7 +8,7 @@ use Rattle.base_types.specs.declared.coin.Coin.{Coin}
 use Rattle.coin_codec.specs.CoinText.{coin_text}
 use Rattle.coin_store.specs.RowLaws.{length-coin_text}
 use Rattle.coin_store.specs.declared.places.CoinPlace.{CoinPlace}
-use Rattle.std.proofs.Common.{cond, sym, ap, subst, ◌∙◌, arith, inl, inr}
+use Rattle.std.proofs.Common.{cond, sym, ap, subst, ◌∙◌, arith, inl, inr, ⊎_elim}
 use Rattle.std.proofs.lemmas.Bool.Decides.{nat_tests}
 use Rattle.std.proofs.lemmas.Bool.{cases_lt, ne_eqb}
 use Rattle.std.proofs.lemmas.List.{length-append}
@@ -19,16 +19,21 @@ use Rattle.base_types.specs.declared.fault.StoreFault.{StoreFault}
 use Rattle.base_types.specs.declared.fault.StoreFault.TheVariants.{NoMemory, DiskFailed, Damaged, Full, CacheFull}
 use Rattle.base_types.specs.declared.hash.OutPoint.{OutPoint}
 use Rattle.batch_log.specs.OpenLog.{OpenLog, Stands, places_of}
-use Rattle.batch_log.specs.Opening.{DamageIn as LogDamage}
-use Rattle.batch_log.specs.Records.{body, records, log, payloads_from, EndsClosed, StartsWith}
+use Rattle.batch_log.specs.Opening.{DamageIn as OfLog, OpenCause}
+use Rattle.batch_log.specs.Records.{body, records, log, EndsClosed, StartsWith, HoldsLog}
 use Rattle.batch_log.specs.declared.places.Place.{Place}
+use Rattle.coin_store.specs.declared.kind.Kind.{Kind}
+use Rattle.coin_store.specs.declared.kind.Kind.TheVariants.{Base, Coins}
 use Rattle.coin_store.specs.declared.marker.Marker.{Marker}
 use Rattle.coin_store.specs.declared.store.CoinStore.{CoinStore}
 use Rattle.coin_store.specs.declared.store.Marked.{Marked}
-use Rattle.coin_store.specs.Batches.{Row, Batch, value_text, row_text, marker_text, batch_text, RowFits, ValueFits, BatchFits}
-use Rattle.coin_store.specs.Opening.{HasBatches, IsDamagedAt}
+use Rattle.coin_store.specs.Base.{BaseFits, base_texts, places_after_base, base_places, base_log, IsBase}
+use Rattle.coin_store.specs.Batches.{Row, Batch, value_text, row_text, rows_text, marker_text, batch_text, RowFits, ValueFits, BatchFits}
+use Rattle.coin_store.specs.Files.{log_reads}
+use Rattle.coin_store.specs.Opening.{HasBatches, HasBase, IsDamagedAt, LogDamage, BaseDamage}
 use Rattle.coin_store.specs.Places.{CoinPlaces, put, place_of, places_after_rows, places_after_batch, places_after, live}
-use Rattle.coin_store.specs.Store.{Holds, DamageIn, marks, texts, last_marker, marker_after}
+use Rattle.coin_store.specs.Store.{Holds, DamagedAs, DamageIn, marks, last_marker, marker_after}
+use Rattle.coin_store.proofs.TwoFiles.{tiny_log, tiny_reads}
 
 -- ---- calls that change nothing come after
 
@@ -43,8 +48,6 @@ module _ {D : Type 0} (time : D → ℕ) (left : D → ℕ → Image → Type 0)
   only_still earlier file bytes mid new only q =
       let later = q.later in
       λ c now. only c (q.since (time mid) c (omega arith) (earlier new (time mid) (time new) c later (omega arith) now))
-
--- ---- what was opened
 
 -- ---- each place has bytes
 
@@ -78,44 +81,125 @@ batches_live file mask gate places (batch ∷ batches) fits all =
     batches_live file mask (gate + (5 + length (batch_text mask batch))) (places_after_batch file mask gate places batch) batches fits.1
     (rows_live file mask gate (length (marker_text batch.marker)) places batch.rows fits.0.rows all)
 
-pub all_live : (file : ℕ) (mask : List ℕ) (batches : List Batch) → AllByRecursion BatchFits batches → AreLive (places_after file mask 0 empty batches)
-all_live file mask batches fits = batches_live file mask 0 empty batches fits (λ q. ap live (get-empty outpoint_cmp q) ∙ sym (get-empty outpoint_cmp q))
+base_live : (file : ℕ) (mask : List ℕ) (gate : ℕ) (places : CoinPlaces) (base : List (List Row)) → AllByRecursion BaseFits base → AreLive places → AreLive (places_after_base file mask gate places base)
+base_live file mask gate places [] fits all = all
+base_live file mask gate places (rows ∷ base) fits all =
+    base_live file mask (gate + (5 + length (rows_text mask rows))) (places_after_rows file mask gate 0 places rows) base fits.1 (rows_live file mask gate 0 places rows fits.0.fit all)
 
-pub opens : (contents : Option Image) (left : Image → Type 0) (store : CoinStore) (payloads : List (List ℕ)) → Stands contents left store.log payloads
-    → HasBatches store.log.file store.mask payloads empty store.index store.markers.items → (batches : List Batch) × (payloads ≡ texts store.mask batches) × Holds contents left store batches
-opens contents left store payloads s h = (
-  h.batches,
-  h.is,
-  record {
-    knows = record { fits = h.fits; markers = h.marked; places = λ q. ap (λ (p : CoinPlaces). live (get p q)) h.places ∙ all_live store.log.file store.mask h.batches h.fits q };
-    stands = subst (Stands contents left store.log) h.is s;
-  },
-)
+none_live : AreLive empty
+none_live q = ap live (get-empty outpoint_cmp q) ∙ sym (get-empty outpoint_cmp q)
 
-pub log_damage : (mask bytes : List ℕ) (fault : StoreFault) → LogDamage bytes fault → DamageIn mask bytes fault
-log_damage mask bytes (Damaged file at) d = inl d
-log_damage mask bytes NoMemory d = tt
-log_damage mask bytes DiskFailed d = tt
-log_damage mask bytes (Full file) d = tt
-log_damage mask bytes CacheFull d = tt
+first_live : (file : Option ℕ) (mask : List ℕ) (base : List (List Row)) → AllByRecursion BaseFits base → AreLive (base_places file mask base)
+first_live None mask base fits = none_live
+first_live (Some file) mask base fits = base_live file mask 0 empty base fits none_live
 
-pub batch_damage : (mask bytes : List ℕ) (payloads : List (List ℕ)) → log bytes ≡ Ok payloads → (fault : StoreFault) → IsDamagedAt mask payloads fault → DamageIn mask bytes fault
-batch_damage mask bytes payloads is (Damaged file at) d = inr (payloads, is, d)
-batch_damage mask bytes payloads is NoMemory d = tt
-batch_damage mask bytes payloads is DiskFailed d = tt
-batch_damage mask bytes payloads is (Full file) d = tt
-batch_damage mask bytes payloads is CacheFull d = tt
+all_live : (file : ℕ) (first : Option ℕ) (mask : List ℕ) (base : List (List Row)) (batches : List Batch) → AllByRecursion BaseFits base → AllByRecursion BatchFits batches → AreLive (places_after file mask 0 (base_places first mask base) batches)
+all_live file first mask base batches base_fits fits = batches_live file mask 0 (base_places first mask base) batches fits (first_live first mask base base_fits)
 
--- ---- how much is read
+some_is : {A : Type 0} (x y : A) → Some x ≡ Some y → x ≡ y
+some_is x y e = cc
 
-le_true : (a b : ℕ) → a ≤ b → nat_le a b ≡ true
-le_true a b h = grind (arith, nat_tests)
+-- ---- the base
 
-tiny_log : (bytes : List ℕ) → length bytes ≤ 1 → log bytes ≡ Ok []
-tiny_log bytes h = ap (λ b. cond b (Ok []) (payloads_from 0 0 bytes)) (le_true (length bytes) 1 h)
+no_texts : (mask : List ℕ) (base : List (List Row)) → base_texts mask base ≡ [] → base ≡ []
+no_texts mask [] e = refl
+no_texts mask (rows ∷ base) e = absurd cc
 
 same_payloads : (a b : List (List ℕ)) (r : Result (List (List ℕ)) ℕ) → r ≡ Ok a → r ≡ Ok b → a ≡ b
 same_payloads a b r p q = cc
+
+-- with no base file a base has no payloads
+pub base_none : (mask : List ℕ) (file : Option ℕ) (image : Image) (base : List (List Row)) → IsBase mask file image base → file ≡ None → base ≡ []
+base_none mask file image base b none = no_texts mask base (sym (same_payloads [] (base_texts mask base) (base_log None image) refl (ap (λ (f : Option ℕ). base_log f image) (sym none) ∙ b.is)))
+
+-- what was opened of the base file
+pub base_opens : (contents : Option Image) (left : Image → Type 0) (opened : OpenLog) (mask : List ℕ) (file : ℕ) (m : Image) (payloads : List (List ℕ)) (old new : CoinPlaces) → old ≡ empty → opened.file ≡ file → log (m file) ≡ Ok payloads
+    → Stands contents left opened payloads → HasBase file mask payloads old new
+    → (base : List (List Row)) × IsBase mask (Some file) m base × (new ≡ base_places (Some file) mask base) × ((f : ℕ) → Some file ≡ Some f → HoldsLog contents left f (base_texts mask base))
+base_opens contents left opened mask file m payloads old new none named is stands h = (
+  h.base,
+  record { fits = h.fits; is = is ∙ ap (λ (p : List (List ℕ)). Ok p) h.is },
+  h.places ∙ ap (λ (p : CoinPlaces). places_after_base file mask 0 p h.base) none,
+  λ f this. subst (λ (g : ℕ). HoldsLog contents left g (base_texts mask h.base)) (named ∙ some_is file f this) (subst (λ (p : List (List ℕ)). HoldsLog contents left opened.file p) h.is stands.holds),
+)
+
+pub no_base : (mask : List ℕ) (m : Image) (contents : Option Image) (left : Image → Type 0) (old : CoinPlaces) → old ≡ empty
+    → (base : List (List Row)) × IsBase mask None m base × (old ≡ base_places None mask base) × ((f : ℕ) → None ≡ Some f → HoldsLog contents left f (base_texts mask base))
+no_base mask m contents left old none = ([], record { fits = tt; is = refl }, none, λ f this. absurd cc)
+
+-- ---- the store
+
+pub opens : (contents : Option Image) (left : Image → Type 0) (store : CoinStore) (image : Image) (base : List (List Row)) (payloads : List (List ℕ)) (first : CoinPlaces) → IsBase store.mask store.base image base
+    → first ≡ base_places store.base store.mask base → Stands contents left store.log payloads → HasBatches store.log.file store.mask payloads first store.index store.markers.items
+    → ((f : ℕ) → store.base ≡ Some f → HoldsLog contents left f (base_texts store.mask base)) → store.base ≢ Some store.log.file
+    → (h : HasBatches store.log.file store.mask payloads first store.index store.markers.items) → Holds contents left store base h.batches
+opens contents left store image base payloads first b is s given stands apart h = record {
+  knows = record {
+    base_fits = b.fits;
+    base_none = base_none store.mask store.base image base b;
+    fits = h.fits;
+    markers = h.marked;
+    places = λ q.
+        ap (λ (p : CoinPlaces). live (get p q)) h.places
+        ∙ ap (λ (p : CoinPlaces). live (get (places_after store.log.file store.mask 0 p h.batches) q)) is
+        ∙ all_live store.log.file store.base store.mask base h.batches b.fits h.fits q;
+  };
+  stands = subst (Stands contents left store.log) h.is s;
+  base_stands = stands;
+  apart = apart;
+}
+
+-- ---- damage
+
+pub log_damage : (kind : Kind) (mask bytes : List ℕ) (fault : StoreFault) → OfLog bytes fault → LogDamage kind mask bytes fault
+log_damage kind mask bytes (Damaged file at) d = inl d
+log_damage kind mask bytes NoMemory d = tt
+log_damage kind mask bytes DiskFailed d = tt
+log_damage kind mask bytes (Full file) d = tt
+log_damage kind mask bytes CacheFull d = tt
+
+pub payload_damage : (kind : Kind) (mask bytes : List ℕ) (payloads : List (List ℕ)) → log bytes ≡ Ok payloads → (fault : StoreFault) → IsDamagedAt kind mask payloads fault → LogDamage kind mask bytes fault
+payload_damage kind mask bytes payloads is (Damaged file at) d = inr (payloads, is, d)
+payload_damage kind mask bytes payloads is NoMemory d = tt
+payload_damage kind mask bytes payloads is DiskFailed d = tt
+payload_damage kind mask bytes payloads is (Full file) d = tt
+payload_damage kind mask bytes payloads is CacheFull d = tt
+
+-- in the base file
+pub base_damage : (mask : List ℕ) (file : ℕ) (m : Image) (before now : ℕ) (fault : StoreFault) → OpenCause file before now fault → LogDamage Base mask (m file) fault → BaseDamage mask (Some file) m fault
+base_damage mask file m before now (Damaged f at) cause d = (ap (λ (g : ℕ). Some g) (sym cause), subst (λ (g : ℕ). DamagedAs Base mask (m g) at) (sym cause) d)
+base_damage mask file m before now NoMemory cause d = tt
+base_damage mask file m before now DiskFailed cause d = tt
+base_damage mask file m before now (Full f) cause d = tt
+base_damage mask file m before now CacheFull cause d = tt
+
+pub first_damage : (mask : List ℕ) (base : Option ℕ) (coins : ℕ) (m : Image) (fault : StoreFault) → BaseDamage mask base m fault → DamageIn mask base coins m fault
+first_damage mask base coins m (Damaged f at) d = inl d
+first_damage mask base coins m NoMemory d = tt
+first_damage mask base coins m DiskFailed d = tt
+first_damage mask base coins m (Full f) d = tt
+first_damage mask base coins m CacheFull d = tt
+
+-- in the coin file, where the base has none
+pub coin_damage : (mask : List ℕ) (base_file : Option ℕ) (coins : ℕ) (m : Image) (bytes : List ℕ) (base : List (List Row)) → IsBase mask base_file m base → log bytes ≡ log (m coins) → (before now : ℕ) (fault : StoreFault)
+    → OpenCause coins before now fault → LogDamage Coins mask bytes fault → DamageIn mask base_file coins m fault
+coin_damage mask base_file coins m bytes base b same before now (Damaged f at) cause d =
+    inr (cause, (base, b), ⊎_elim (λ e. inl (sym same ∙ e)) (λ p. inr (p.0, sym same ∙ p.1, p.2)) d)
+coin_damage mask base_file coins m bytes base b same before now NoMemory cause d = tt
+coin_damage mask base_file coins m bytes base b same before now DiskFailed cause d = tt
+coin_damage mask base_file coins m bytes base b same before now (Full f) cause d = tt
+coin_damage mask base_file coins m bytes base b same before now CacheFull cause d = tt
+
+-- ---- how much is read
+
+le_false : (a b : ℕ) → b < a → nat_le a b ≡ false
+le_false a b h = grind (arith, nat_tests)
+
+bounded : (bytes : List ℕ) (n : ℕ) → (length bytes ≤ 1 → n ≤ 5) → (1 < length bytes → n ≤ length bytes + 5) → n ≤ log_reads bytes
+bounded bytes n few more = elim (cases_lt 1 (length bytes)) [
+  | inl long ↦ rw (le_false (length bytes) 1 long) (more long)
+  | inr short ↦ subst (λ (k : ℕ). n ≤ k) (sym (tiny_reads bytes short)) (few short)
+]
 
 lengths_of : (at : ℕ) (payloads : List (List ℕ)) → sum_by (λ (p : Place). p.len) (places_of at payloads) + 5 * length (places_of at payloads) ≡ length (records payloads)
 lengths_of at [] = omega arith
@@ -123,29 +207,24 @@ lengths_of at (payload ∷ payloads) =
     let here : Place = record { at = at; len = length payload } in
     omega (arith, lengths_of (at + (5 + length payload)) payloads, sum_by-cons (λ (p : Place). p.len) here (places_of (at + (5 + length payload)) payloads), length-append (1 ∷ body payload) (records payloads))
 
-pub records_within : (bytes : List ℕ) (payloads : List (List ℕ)) → log bytes ≡ Ok payloads → (1 < length bytes → EndsClosed payloads bytes) → length (records payloads) ≤ length bytes
-records_within bytes payloads is long = elim (cases_lt 1 (length bytes)) [
-  | inl more ↦ let e = long more in omega (arith, ap length e.is, length-append (records payloads) (e.gate ∷ e.rest))
-  | inr few ↦
-      let none = same_payloads payloads [] (log bytes) is (tiny_log bytes few) in
-      omega (arith, ap (λ (p : List (List ℕ)). length (records p)) none)
-]
-
-some_is : {A : Type 0} (x y : A) → Some x ≡ Some y → x ≡ y
-some_is x y e = cc
-
 -- what the file has, where the disk tells it
 pub closed_in : (contents : Option Image) (left : Image → Type 0) (opened : OpenLog) (payloads : List (List ℕ)) (m : Image) (file : ℕ) → Stands contents left opened payloads → contents ≡ Some m → opened.file ≡ file → EndsClosed payloads (m file)
 closed_in contents left opened payloads m file s told is =
     let same : s.holds.image ≡ m = some_is s.holds.image m (sym s.holds.told ∙ told) in
     subst (EndsClosed payloads) (ap (λ (i : Image). i opened.file) same ∙ ap m is) s.holds.reads
 
-pub reads_within : (bytes : List ℕ) (payloads : List (List ℕ)) (places : List Place) → places ≡ places_of 0 payloads → length (records payloads) ≤ length bytes
-    → (5 * length places + 5) + sum_by (λ (p : Place). p.len) places ≤ length bytes + 5
-reads_within bytes payloads places is within = omega (arith, lengths_of 0 payloads, ap (λ (p : List Place). sum_by (λ (q : Place). q.len) p) is, ap length is)
+pub reads_within : (bytes : List ℕ) (payloads : List (List ℕ)) (places : List Place) → places ≡ places_of 0 payloads → log bytes ≡ Ok payloads → (1 < length bytes → EndsClosed payloads bytes)
+    → (5 * length places + 5) + sum_by (λ (p : Place). p.len) places ≤ log_reads bytes
+reads_within bytes payloads places is found long =
+    let all : 5 * length places + sum_by (λ (p : Place). p.len) places ≡ length (records payloads) = omega (arith, lengths_of 0 payloads, ap (λ (p : List Place). sum_by (λ (q : Place). q.len) p) is, ap length is) in
+    bounded bytes _
+    (λ few. let none = same_payloads payloads [] (log bytes) found (tiny_log bytes few) in omega (arith, all, ap (λ (p : List (List ℕ)). length (records p)) none))
+    (λ more. let e = long more in omega (arith, all, ap length e.is, length-append (records payloads) (e.gate ∷ e.rest)))
 
-pub heads_within : (bytes : List ℕ) (payloads : List (List ℕ)) → StartsWith payloads bytes → 5 * length payloads + 5 ≤ length bytes + 5
-heads_within bytes payloads s = omega (arith, ap length s.is, length-append (records payloads) s.rest, lengths_of 0 payloads, length-places_of 0 payloads) where
+pub heads_within : (bytes : List ℕ) (payloads : List (List ℕ)) → StartsWith payloads bytes → 5 * length payloads + 5 ≤ log_reads bytes
+heads_within bytes payloads s =
+    let size : 5 * length payloads ≤ length bytes = omega (arith, ap length s.is, length-append (records payloads) s.rest, lengths_of 0 payloads, length-places_of 0 payloads) in
+    bounded bytes _ (λ few. omega (arith, size, few)) (λ more. omega (arith, size)) where
   length-places_of : (at : ℕ) (ps : List (List ℕ)) → length (places_of at ps) ≡ length ps
   length-places_of at [] = refl
   length-places_of at (p ∷ ps) = ap suc (length-places_of (at + (5 + length p)) ps)

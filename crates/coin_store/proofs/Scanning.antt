@@ -1,5 +1,5 @@
 -- One payload after the other: the markers and the places so far.
-use Rattle.std.specs.Prelude.{◌≡◌, ℕ, zero, suc, ◌+◌, ◌<◌, ◌≤◌, List, [], ◌∷◌, ◌++◌, length, take, drop, sum_by, slice_get, get_or, Option, Some, None, refl}
+use Rattle.std.specs.Prelude.{◌≡◌, ℕ, zero, suc, ◌+◌, ◌<◌, ◌≤◌, List, [], ◌∷◌, ◌++◌, length, map, take, drop, sum_by, slice_get, get_or, Option, Some, None, refl}
 use Rattle.std.specs.List.{AllByRecursion}
 use Rattle.std.proofs.Common.{sym, ap, subst, ◌∙◌, arith}
 use Rattle.std.proofs.lemmas.List.{length-append, take_all}
@@ -12,14 +12,17 @@ use Rattle.base_types.specs.declared.fault.StoreFault.TheVariants.{NoMemory, Dis
 use Rattle.batch_log.specs.OpenLog.{OpenLog, Stands, places_of}
 use Rattle.batch_log.specs.Records.{body, records}
 use Rattle.batch_log.specs.declared.places.Place.{Place}
+use Rattle.coin_store.specs.declared.kind.Kind.{Kind}
+use Rattle.coin_store.specs.declared.kind.Kind.TheVariants.{Base, Coins}
 use Rattle.coin_store.specs.declared.marker.Marker.{Marker}
 use Rattle.coin_store.specs.declared.store.Marked.{Marked}
-use Rattle.coin_store.specs.Batches.{Batch, batch_text, BatchFits}
-use Rattle.coin_store.specs.BatchReads.{HasBatch}
-use Rattle.coin_store.specs.Opening.{HasBatches, IsDamagedAt}
-use Rattle.coin_store.specs.Places.{CoinPlaces, places_after, places_after_batch}
+use Rattle.coin_store.specs.Base.{BaseFits, base_of, base_texts, places_after_base}
+use Rattle.coin_store.specs.Batches.{Row, Batch, rows_text, batch_text, BatchFits}
+use Rattle.coin_store.specs.BatchReads.{HasBatch, HasBaseRows, HasPayload, IsNone}
+use Rattle.coin_store.specs.Opening.{HasBatches, HasBase, HasPayloads, marked_at, IsDamagedAt}
+use Rattle.coin_store.specs.Places.{CoinPlaces, places_after_rows, places_after, places_after_batch}
 use Rattle.coin_store.specs.Reading.{batch_of}
-use Rattle.coin_store.specs.Store.{marks, texts, FirstBroken, RecordCause, OnDamage}
+use Rattle.coin_store.specs.Store.{marks, texts, FirstBroken, FirstBrokenAs, RecordCause, OnDamage}
 
 -- ---- the disk stays
 
@@ -107,49 +110,74 @@ lengths_more shown i d within =
 pub lengths_within : (all shown : List Place) (i : ℕ) (d : Place) → shown ≡ all → i < length shown → lengths (take i shown) + (get_or shown i d).len ≤ lengths all
 lengths_within all shown i d is within = omega (arith, ap lengths is, sum_by_more_le (λ (p : Place). p.len) shown i d within)
 
--- ---- one batch more
+-- ---- one payload more
 
 zero_more : (n : ℕ) → n ≡ n + 0
 zero_more n = omega arith
 
-texts_push : (mask : List ℕ) (batches : List Batch) (batch : Batch) → texts mask (batches ++ batch ∷ []) ≡ texts mask batches ++ batch_text mask batch ∷ []
-texts_push mask [] batch = refl
-texts_push mask (first ∷ batches) batch = ap (λ (l : List (List ℕ)). batch_text mask first ∷ l) (texts_push mask batches batch)
+module _ {P : Type 0} (text : P → List ℕ) (Fits : P → Type 0) where
+  pub texts_push : (read : List P) (p : P) → map text (read ++ p ∷ []) ≡ map text read ++ text p ∷ []
+  texts_push [] p = refl
+  texts_push (first ∷ read) p = ap (λ (l : List (List ℕ)). text first ∷ l) (texts_push read p)
 
-further : (mask : List ℕ) (gate : ℕ) (first : Batch) (batches : List Batch) → gate + (5 + length (batch_text mask first)) + length (records (texts mask batches)) ≡ gate + length (records (texts mask (first ∷ batches)))
-further mask gate first batches = omega (arith, length-append (1 ∷ body (batch_text mask first)) (records (texts mask batches)))
+  pub further : (gate : ℕ) (first : P) (read : List P) → gate + (5 + length (text first)) + length (records (map text read)) ≡ gate + length (records (map text (first ∷ read)))
+  further gate first read = omega (arith, length-append (1 ∷ body (text first)) (records (map text read)))
+
+  fits_push : (read : List P) (p : P) → AllByRecursion Fits read → Fits p → AllByRecursion Fits (read ++ p ∷ [])
+  fits_push [] p fits fit = (fit, tt)
+  fits_push (first ∷ read) p fits fit = (fits.0, fits_push read p fits.1 fit)
+
+  broken_at : (payloads : List (List ℕ)) (i : ℕ) (place : Place) (of : List ℕ → Option P) (read : List P) → AllByRecursion Fits read → take i payloads ≡ map text read → (p : PayloadAt payloads i place) → of p.payload ≡ None
+      → FirstBroken text Fits of payloads place.at
+  broken_at payloads i place of read fits is p broken = record {
+    before = read;
+    payload = p.payload;
+    others = drop (suc i) payloads;
+    fits = fits;
+    is = split_there payloads i p.payload p.here ∙ ap (λ (l : List (List ℕ)). l ++ p.payload ∷ drop (suc i) payloads) is;
+    broken = broken;
+    gate = p.gate ∙ ap (λ (l : List (List ℕ)). length (records l)) is;
+  }
+
+  texts_more : (payloads : List (List ℕ)) (i : ℕ) (read : List P) (p : P) (payload : List ℕ) → slice_get payloads i ≡ Some payload → take i payloads ≡ map text read → payload ≡ text p → take (i + 1) payloads ≡ map text (read ++ p ∷ [])
+  texts_more payloads i read p payload here so_far is =
+      take_more payloads i payload here ∙ ap (λ (l : List (List ℕ)). l ++ payload ∷ []) so_far ∙ ap (λ (t : List ℕ). map text read ++ t ∷ []) is ∙ sym (texts_push read p)
 
 pub marks_push : (mask : List ℕ) (gate : ℕ) (batches : List Batch) (batch : Batch)
     → marks mask gate (batches ++ batch ∷ []) ≡ marks mask gate batches ++ record { marker = batch.marker; at = gate + length (records (texts mask batches)) } ∷ []
 marks_push mask gate [] batch = ap (λ (n : ℕ). record { marker = batch.marker; at = n } ∷ []) (zero_more gate)
 marks_push mask gate (first ∷ batches) batch =
     ap (λ (l : List Marked). record { marker = first.marker; at = gate } ∷ l) (marks_push mask (gate + (5 + length (batch_text mask first))) batches batch
-    ∙ ap (λ (n : ℕ). marks mask (gate + (5 + length (batch_text mask first))) batches ++ record { marker = batch.marker; at = n } ∷ []) (further mask gate first batches))
+    ∙ ap (λ (n : ℕ). marks mask (gate + (5 + length (batch_text mask first))) batches ++ record { marker = batch.marker; at = n } ∷ []) (further (batch_text mask) BatchFits gate first batches))
 
 pub after_push : (file : ℕ) (mask : List ℕ) (gate : ℕ) (places : CoinPlaces) (batches : List Batch) (batch : Batch)
     → places_after file mask gate places (batches ++ batch ∷ []) ≡ places_after_batch file mask (gate + length (records (texts mask batches))) (places_after file mask gate places batches) batch
 after_push file mask gate places [] batch = ap (λ (n : ℕ). places_after_batch file mask n places batch) (zero_more gate)
 after_push file mask gate places (first ∷ batches) batch =
     after_push file mask (gate + (5 + length (batch_text mask first))) (places_after_batch file mask gate places first) batches batch
-    ∙ ap (λ (n : ℕ). places_after_batch file mask n (places_after file mask (gate + (5 + length (batch_text mask first))) (places_after_batch file mask gate places first) batches) batch) (further mask gate first batches)
+    ∙ ap (λ (n : ℕ). places_after_batch file mask n (places_after file mask (gate + (5 + length (batch_text mask first))) (places_after_batch file mask gate places first) batches) batch) (further (batch_text mask) BatchFits gate first batches)
 
-fits_push : (batches : List Batch) (batch : Batch) → AllByRecursion BatchFits batches → BatchFits batch → AllByRecursion BatchFits (batches ++ batch ∷ [])
-fits_push [] batch fits fit = (fit, tt)
-fits_push (first ∷ batches) batch fits fit = (fits.0, fits_push batches batch fits.1 fit)
+base_push : (file : ℕ) (mask : List ℕ) (gate : ℕ) (places : CoinPlaces) (base : List (List Row)) (rows : List Row)
+    → places_after_base file mask gate places (base ++ rows ∷ []) ≡ places_after_rows file mask (gate + length (records (base_texts mask base))) 0 (places_after_base file mask gate places base) rows
+base_push file mask gate places [] rows = ap (λ (n : ℕ). places_after_rows file mask n 0 places rows) (zero_more gate)
+base_push file mask gate places (first ∷ base) rows =
+    base_push file mask (gate + (5 + length (rows_text mask first))) (places_after_rows file mask gate 0 places first) base rows
+    ∙ ap (λ (n : ℕ). places_after_rows file mask n 0 (places_after_base file mask (gate + (5 + length (rows_text mask first))) (places_after_rows file mask gate 0 places first) base) rows) (further (rows_text mask) BaseFits gate first base)
 
 module _ (file : ℕ) (mask : List ℕ) (payloads : List (List ℕ)) (old : CoinPlaces) where
-  pub scan_none : HasBatches file mask [] old old []
-  scan_none = record { batches = []; fits = tt; is = refl; marked = refl; places = refl }
+  pub scan_none : (kind : Kind) → HasPayloads kind file mask [] old old []
+  scan_none Base = record { base = []; fits = tt; is = refl; places = refl }
+  scan_none Coins = record { batches = []; fits = tt; is = refl; marked = refl; places = refl }
 
-  pub scan_more : (i : ℕ) (place : Place) (mid new : CoinPlaces) (markers now : List Marked) (marker : Marker) → HasBatches file mask (take i payloads) old mid markers → (p : PayloadAt payloads i place)
+  batch_more : (i : ℕ) (place : Place) (mid new : CoinPlaces) (markers now : List Marked) (marker : Marker) → HasBatches file mask (take i payloads) old mid markers → (p : PayloadAt payloads i place)
       → HasBatch file place.at mask p.payload mid new marker → now ≡ markers ++ record { marker = marker; at = place.at } ∷ [] → HasBatches file mask (take (i + 1) payloads) old new now
-  scan_more i place mid new markers now marker h p b is =
+  batch_more i place mid new markers now marker h p b is =
       let gate : place.at ≡ length (records (texts mask h.batches)) = p.gate ∙ ap (λ (l : List (List ℕ)). length (records l)) h.is in
       let zero_gate : place.at ≡ 0 + length (records (texts mask h.batches)) = omega (arith, gate) in
       record {
         batches = h.batches ++ b.batch ∷ [];
-        fits = fits_push h.batches b.batch h.fits b.fits;
-        is = take_more payloads i p.payload p.here ∙ ap (λ (l : List (List ℕ)). l ++ p.payload ∷ []) h.is ∙ ap (λ (t : List ℕ). texts mask h.batches ++ t ∷ []) b.is ∙ sym (texts_push mask h.batches b.batch);
+        fits = fits_push (batch_text mask) BatchFits h.batches b.batch h.fits b.fits;
+        is = texts_more (batch_text mask) BatchFits payloads i h.batches b.batch p.payload p.here h.is b.is;
         marked = is
             ∙ ap (λ (l : List Marked). l ++ record { marker = marker; at = place.at } ∷ []) h.marked
             ∙ ap (λ (m : Marker). marks mask 0 h.batches ++ record { marker = m; at = place.at } ∷ []) (sym b.marked)
@@ -161,28 +189,43 @@ module _ (file : ℕ) (mask : List ℕ) (payloads : List (List ℕ)) (old : Coin
             ∙ sym (after_push file mask 0 old h.batches b.batch);
       }
 
-  pub scan_broken : (i : ℕ) (place : Place) (mid : CoinPlaces) (markers : List Marked) → HasBatches file mask (take i payloads) old mid markers → (p : PayloadAt payloads i place)
-      → batch_of mask p.payload ≡ None → FirstBroken mask payloads place.at
-  scan_broken i place mid markers h p broken = record {
-    batches = h.batches;
-    payload = p.payload;
-    others = drop (suc i) payloads;
-    fits = h.fits;
-    is = split_there payloads i p.payload p.here ∙ ap (λ (l : List (List ℕ)). l ++ p.payload ∷ drop (suc i) payloads) h.is;
-    broken = broken;
-    gate = p.gate ∙ ap (λ (l : List (List ℕ)). length (records l)) h.is;
-  }
+  base_more : (i : ℕ) (place : Place) (mid new : CoinPlaces) → HasBase file mask (take i payloads) old mid → (p : PayloadAt payloads i place)
+      → HasBaseRows file place.at mask p.payload mid new → HasBase file mask (take (i + 1) payloads) old new
+  base_more i place mid new h p b =
+      let gate : place.at ≡ length (records (base_texts mask h.base)) = p.gate ∙ ap (λ (l : List (List ℕ)). length (records l)) h.is in
+      let zero_gate : place.at ≡ 0 + length (records (base_texts mask h.base)) = omega (arith, gate) in
+      record {
+        base = h.base ++ b.rows ∷ [];
+        fits = fits_push (rows_text mask) BaseFits h.base b.rows h.fits b.fits;
+        is = texts_more (rows_text mask) BaseFits payloads i h.base b.rows p.payload p.here h.is b.is;
+        places = b.places
+            ∙ ap (λ (n : ℕ). places_after_rows file mask n 0 mid b.rows) zero_gate
+            ∙ ap (λ (m : CoinPlaces). places_after_rows file mask (0 + length (records (base_texts mask h.base))) 0 m b.rows) h.places
+            ∙ sym (base_push file mask 0 old h.base b.rows);
+      }
 
-  pub scan_faulty : (i : ℕ) (place : Place) (mid : CoinPlaces) (markers : List Marked) → HasBatches file mask (take i payloads) old mid markers → (p : PayloadAt payloads i place)
-      → (fault : StoreFault) (f before now : ℕ) → RecordCause f place.at before now fault → OnDamage (batch_of mask p.payload ≡ None) fault → IsDamagedAt mask payloads fault
-  scan_faulty i place mid markers h p (Damaged g gate) f before now cause damage = subst (λ (n : ℕ). FirstBroken mask payloads n) (sym cause.1) (scan_broken i place mid markers h p damage)
-  scan_faulty i place mid markers h p NoMemory f before now cause damage = tt
-  scan_faulty i place mid markers h p DiskFailed f before now cause damage = tt
-  scan_faulty i place mid markers h p (Full g) f before now cause damage = tt
-  scan_faulty i place mid markers h p CacheFull f before now cause damage = tt
+  pub scan_more : (kind : Kind) (i : ℕ) (place : Place) (mid new : CoinPlaces) (markers now : List Marked) (marker : Option Marker) → HasPayloads kind file mask (take i payloads) old mid markers → (p : PayloadAt payloads i place)
+      → HasPayload kind file place.at mask p.payload mid new marker → now ≡ markers ++ marked_at marker place.at → HasPayloads kind file mask (take (i + 1) payloads) old new now
+  scan_more Base i place mid new markers now marker h p b is = base_more i place mid new h p b.0
+  scan_more Coins i place mid new markers now None h p b is = absurd b
+  scan_more Coins i place mid new markers now (Some marker) h p b is = batch_more i place mid new markers now marker h p b is
 
-  pub scan_all : (i : ℕ) (log : OpenLog) (new : CoinPlaces) (markers : List Marked) → log.places ≡ places_of 0 payloads → length log.places ≤ i → HasBatches file mask (take i payloads) old new markers → HasBatches file mask payloads old new markers
-  scan_all i log new markers is over h = subst (λ (l : List (List ℕ)). HasBatches file mask l old new markers) (take_all i payloads (omega (arith, over, ap length is, length-places_of 0 payloads))) h where
+  scan_broken : (kind : Kind) (i : ℕ) (place : Place) (mid : CoinPlaces) (markers : List Marked) → HasPayloads kind file mask (take i payloads) old mid markers → (p : PayloadAt payloads i place)
+      → IsNone kind mask p.payload → FirstBrokenAs kind mask payloads place.at
+  scan_broken Base i place mid markers h p broken = broken_at (rows_text mask) BaseFits payloads i place (base_of mask) h.base h.fits h.is p broken
+  scan_broken Coins i place mid markers h p broken = broken_at (batch_text mask) BatchFits payloads i place (batch_of mask) h.batches h.fits h.is p broken
+
+  pub scan_faulty : (kind : Kind) (i : ℕ) (place : Place) (mid : CoinPlaces) (markers : List Marked) → HasPayloads kind file mask (take i payloads) old mid markers → (p : PayloadAt payloads i place)
+      → (fault : StoreFault) (f before now : ℕ) → RecordCause f place.at before now fault → OnDamage (IsNone kind mask p.payload) fault → IsDamagedAt kind mask payloads fault
+  scan_faulty kind i place mid markers h p (Damaged g gate) f before now cause damage = subst (λ (n : ℕ). FirstBrokenAs kind mask payloads n) (sym cause.1) (scan_broken kind i place mid markers h p damage)
+  scan_faulty kind i place mid markers h p NoMemory f before now cause damage = tt
+  scan_faulty kind i place mid markers h p DiskFailed f before now cause damage = tt
+  scan_faulty kind i place mid markers h p (Full g) f before now cause damage = tt
+  scan_faulty kind i place mid markers h p CacheFull f before now cause damage = tt
+
+  pub scan_all : (kind : Kind) (i : ℕ) (log : OpenLog) (new : CoinPlaces) (markers : List Marked) → log.places ≡ places_of 0 payloads → length log.places ≤ i → HasPayloads kind file mask (take i payloads) old new markers
+      → HasPayloads kind file mask payloads old new markers
+  scan_all kind i log new markers is over h = subst (λ (l : List (List ℕ)). HasPayloads kind file mask l old new markers) (take_all i payloads (omega (arith, over, ap length is, length-places_of 0 payloads))) h where
     length-places_of : (at : ℕ) (ps : List (List ℕ)) → length (places_of at ps) ≡ length ps
     length-places_of at [] = refl
     length-places_of at (p ∷ ps) = ap suc (length-places_of (at + (5 + length p)) ps)

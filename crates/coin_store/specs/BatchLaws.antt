@@ -151,12 +151,10 @@ pub batch_again : (mask : List ℕ) (batch : Batch) → BatchFits batch → batc
 unfolding batch_of batch_text
 batch_again mask batch fits = rw (marker_again batch.marker (rows_text mask batch.rows) fits.marker, rows_again mask batch.rows (length (rows_text mask batch.rows)) fits.rows (omega arith)) refl
 
--- a marker, rows, and then bytes that don't begin with a row
-pub batch_stuck : (mask : List ℕ) (marker : Marker) (rows : List Row) (rest : List ℕ) → MarkerFits marker → AllByRecursion RowFits rows → 0 < length rest → row_of mask rest ≡ None
-    → batch_of mask (marker_text marker ++ (rows_text mask rows ++ rest)) ≡ None
+-- a marker, and then bytes that aren't rows
+pub batch_stuck : (mask bytes rest : List ℕ) (marker : Marker) → marker_of bytes ≡ Some (marker, rest) → rows_of mask (length rest) rest ≡ None → batch_of mask bytes ≡ None
 unfolding batch_of
-batch_stuck mask marker rows rest marked fits some stuck =
-    rw (marker_again marker (rows_text mask rows ++ rest) marked, rows_stuck mask rows rest (length (rows_text mask rows ++ rest)) fits some stuck) refl
+batch_stuck mask bytes rest marker marked stuck = rw (marked, stuck) refl
 
 pub batch_unmarked : (mask bytes : List ℕ) → marker_of bytes ≡ None → batch_of mask bytes ≡ None
 unfolding batch_of

@@ -1,15 +1,18 @@
 -- What the readers of batches return.
-use Rattle.std.specs.Prelude.{◌≡◌, ℕ, ◌+◌, List, ◌++◌, length, drop, Option, Some, None}
-use Rattle.std.specs.List.{AllByRecursion}
+use Rattle.std.specs.Prelude.{◌≡◌, ℕ, ◌+◌, Bool, List, ◌++◌, length, drop, Option, Some, None, IsSomeAnd}
+use Rattle.std.specs.List.{list_all, AllByRecursion}
 use Rattle.std.specs.Result.{result_ok}
 use Rattle.base_types.specs.Reading.{bytes_at}
 use Rattle.base_types.specs.declared.coin.Coin.{Coin}
 use Rattle.base_types.specs.declared.hash.Hash32.{Hash32}
+use Rattle.coin_store.specs.declared.kind.Kind.{Kind}
+use Rattle.coin_store.specs.declared.kind.Kind.TheVariants.{Base, Coins}
 use Rattle.coin_store.specs.declared.marker.Marker.{Marker}
 use Rattle.coin_store.specs.declared.row.RowHead.{RowHead}
-use Rattle.coin_store.specs.Batches.{Row, Batch, ValueFits, RowFits, MarkerFits, marker_text, rows_text, value_text, head_text, batch_text, BatchFits}
+use Rattle.coin_store.specs.Base.{has_coin, BaseFits, base_of}
+use Rattle.coin_store.specs.Batches.{Row, Batch, ValueFits, RowFits, rows_text, value_text, head_text, batch_text, BatchFits}
 use Rattle.coin_store.specs.Places.{CoinPlaces, put, place_of, places_after_rows, places_after_batch}
-use Rattle.coin_store.specs.Reading.{marker_of}
+use Rattle.coin_store.specs.Reading.{marker_of, batch_of}
 
 abbrev pub IsHash : List ℕ → List ℕ → Option Hash32 → Type 0
 IsHash old new None = result_ok (bytes_at 32 old) ≡ None
@@ -33,11 +36,37 @@ pub record HasBatch (file gate : ℕ) (mask payload : List ℕ) (old new : CoinP
   pub marked : batch.marker ≡ marker
   pub places : new ≡ places_after_batch file mask gate old batch
 
--- the bytes before an offset are a marker and rows, and the places are those after them
-pub record IsReadTo (file gate : ℕ) (mask payload : List ℕ) (marker : Marker) (at : ℕ) (old new : CoinPlaces) : Type 0 where
+-- the payload is rows, each with a coin, and the places are those after them
+pub record HasBaseRows (file gate : ℕ) (mask payload : List ℕ) (old new : CoinPlaces) : Type 0 where
   pub rows : List Row
-  pub marked : MarkerFits marker
+  pub is : payload ≡ rows_text mask rows
+  pub fits : BaseFits rows
+  pub places : new ≡ places_after_rows file mask gate 0 old rows
+
+-- what is read of a payload of this kind, and its marker, if it has one
+abbrev pub HasPayload : Kind → ℕ → ℕ → List ℕ → List ℕ → CoinPlaces → CoinPlaces → Option Marker → Type 0
+HasPayload Base file gate mask payload old new marker = HasBaseRows file gate mask payload old new × (marker ≡ None)
+HasPayload Coins file gate mask payload old new marker = IsSomeAnd marker (HasBatch file gate mask payload old new)
+
+-- the bytes are no payload of this kind
+abbrev pub IsNone : Kind → List ℕ → List ℕ → Type 0
+IsNone Base mask payload = base_of mask payload ≡ None
+IsNone Coins mask payload = batch_of mask payload ≡ None
+
+-- the bytes, which stand at an offset of the payload, are rows, the places are those after them, and `coins` tells whether
+-- each has a coin
+pub record HasRows (file gate offset : ℕ) (mask bytes : List ℕ) (old new : CoinPlaces) (coins : Bool) : Type 0 where
+  pub rows : List Row
+  pub is : bytes ≡ rows_text mask rows
   pub fit : AllByRecursion RowFits rows
-  pub parts : payload ≡ marker_text marker ++ (rows_text mask rows ++ drop at payload)
-  pub reach : at ≡ length (marker_text marker) + length (rows_text mask rows)
-  pub places : new ≡ places_after_rows file mask gate (length (marker_text marker)) old rows
+  pub places : new ≡ places_after_rows file mask gate offset old rows
+  pub each : coins ≡ list_all has_coin rows
+
+-- the bytes from one offset of the payload to another are such rows
+pub record IsReadTo (file gate : ℕ) (mask payload : List ℕ) (start at : ℕ) (old new : CoinPlaces) (coins : Bool) : Type 0 where
+  pub rows : List Row
+  pub fit : AllByRecursion RowFits rows
+  pub parts : drop start payload ≡ rows_text mask rows ++ drop at payload
+  pub reach : at ≡ start + length (rows_text mask rows)
+  pub places : new ≡ places_after_rows file mask gate start old rows
+  pub each : coins ≡ list_all has_coin rows

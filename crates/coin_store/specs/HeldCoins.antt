@@ -1,10 +1,10 @@
--- The coins at the places of batches are those after the batches.
+-- The coins at the places of a base and batches are those after them.
 use Rattle.std.specs.Prelude.{◌≡◌, ℕ, ◌+◌, Bool, true, false, List, [], ◌∷◌, ◌++◌, length, take, drop, is_some, Option, Some, None, refl}
 use Rattle.std.specs.FinMap.{get, empty, get-empty, same_map}
 use Rattle.std.specs.Int.{to_le_bytes, w32}
 use Rattle.std.specs.List.{AllByRecursion}
 use Rattle.std.specs.Ordering.{eq_by_cmp}
-use Rattle.std.proofs.Common.{cond, eqb, ltb, sym, ap, ◌∙◌, append_assoc, arith, inl, inr}
+use Rattle.std.proofs.Common.{cond, eqb, ltb, sym, ap, subst, ◌∙◌, append_assoc, arith, inl, inr}
 use Rattle.std.proofs.lemmas.Bool.{cases_Bool, eqb-true, le-ltb}
 use Rattle.std.proofs.lemmas.List.{length-append, take_at, drop_at}
 use Rattle.disk_model.specs.Disk.{Image}
@@ -15,8 +15,9 @@ use Rattle.base_types.specs.declared.hash.OutPoint.{OutPoint}
 use Rattle.batch_log.specs.Records.{body, records, EndsClosed}
 use Rattle.coin_store.specs.declared.places.CoinPlace.{CoinPlace}
 use Rattle.coin_store.specs.declared.store.CoinStore.{CoinStore}
+use Rattle.coin_store.specs.Base.{BaseFits, base_texts, base_coins, coins_after_base, rows_after, base_places, places_after_base}
 use Rattle.coin_store.specs.Batches.{Row, Batch, covered, value_text, head_text, row_text, rows_text, marker_text, batch_text, RowFits, ValueFits, BatchFits}
-use Rattle.coin_store.specs.Places.{CoinPlaces, put, place_of, coins_after_rows, coins_after, rows_after, places_after_rows, places_after_batch, places_after, live, bytes_there, coin_there, coins_at_places}
+use Rattle.coin_store.specs.Places.{CoinPlaces, put, place_of, coins_after_rows, coins_after, places_after_rows, places_after_batch, places_after, live, bytes_there, coin_there, coins_at_places}
 use Rattle.coin_store.specs.Reading.{◌>>=◌, value_of}
 use Rattle.coin_store.specs.RowLaws.{value_again, length-covered, covered_twice}
 use Rattle.coin_store.specs.Seen.{get-put, seen, no_bytes}
@@ -107,6 +108,34 @@ module _ (file : ℕ) (mask : List ℕ) (image : Image) where
       batches_mean (gate + (5 + length payload)) batches rest (places_after_batch file mask gate places batch) (coins_after_rows coins batch.rows) fits.1 further
       (rows_mean gate (length (marker_text batch.marker)) batch.rows (later ++ rest) places coins fits.0.rows rows all)
 
+  base_mean : (gate : ℕ) (base : List (List Row)) (rest : List ℕ) (places : CoinPlaces) (coins : Coins) → AllByRecursion BaseFits base → Stand (image file) gate (records (base_texts mask base)) rest → Mean mask image places coins
+      → Mean mask image (places_after_base file mask gate places base) (coins_after_base coins base)
+  base_mean gate [] rest places coins fits s all = all
+  base_mean gate (rows ∷ base) rest places coins fits s all =
+      let payload = rows_text mask rows in
+      let whole = 1 ∷ body payload in
+      let later = records (base_texts mask base) in
+      let first = stand_before (image file) gate whole later rest s in
+      let further = stand_behind (image file) gate (gate + (5 + length payload)) whole later rest (omega arith) s in
+      let inside = stand_behind (image file) gate (gate + (5 + 0)) (1 ∷ to_le_bytes w32 (length payload)) payload (later ++ rest) (omega arith) first in
+      base_mean (gate + (5 + length payload)) base rest (places_after_rows file mask gate 0 places rows) (coins_after_rows coins rows) fits.1 further
+      (rows_mean gate 0 rows (later ++ rest) places coins fits.0.fit inside all)
+
+-- no place means no coin
+none_mean : (mask : List ℕ) (image : Image) → Mean mask image empty empty
+none_mean mask image q = ap (λ (p : Option CoinPlace). p >>= coin_there mask image) (get-empty outpoint_cmp q) ∙ sym (get-empty outpoint_cmp q)
+
+begun : (payloads : List (List ℕ)) (bytes : List ℕ) (closed : EndsClosed payloads bytes) → Stand bytes 0 (records payloads) (closed.gate ∷ closed.rest)
+begun payloads bytes closed = record { front = []; is = closed.is; reach = refl }
+
+-- the places of a base mean its coins where it stands in its file
+base_means : (file : Option ℕ) (mask : List ℕ) (image : Image) (base : List (List Row)) → AllByRecursion BaseFits base → (file ≡ None → base ≡ []) → ((f : ℕ) → file ≡ Some f → EndsClosed (base_texts mask base) (image f))
+    → Mean mask image (base_places file mask base) (base_coins base)
+base_means None mask image base fits none stands = subst (λ (b : List (List Row)). Mean mask image empty (base_coins b)) (sym (none refl)) (none_mean mask image)
+base_means (Some file) mask image base fits none stands =
+    let closed = stands file refl in
+    base_mean file mask image 0 base (closed.gate ∷ closed.rest) empty empty fits (begun (base_texts mask base) (image file) closed) (none_mean mask image)
+
 live_means : (mask : List ℕ) (image : Image) (place : Option CoinPlace) → (place >>= coin_there mask image) ≡ (live place >>= coin_there mask image)
 live_means mask image None = refl
 live_means mask image (Some place) = elim (cases_Bool (eqb place.len 0)) [
@@ -114,22 +143,29 @@ live_means mask image (Some place) = elim (cases_Bool (eqb place.len 0)) [
   | inr f ↦ rw f refl
 ]
 
--- what the places of a store mean in bytes that end at its batches
-pub coins_in : (store : CoinStore) (batches : List Batch) → Knows store batches → (image : Image) → EndsClosed (texts store.mask batches) (image store.log.file) → coins_at_places store.mask image store.index ≡ rows_after batches
-coins_in store batches k image closed =
+-- what the places of a store mean in bytes that end at its batches, with its base in another file
+pub coins_in : (store : CoinStore) (base : List (List Row)) (batches : List Batch) → Knows store base batches → (image : Image)
+    → ((f : ℕ) → store.base ≡ Some f → EndsClosed (base_texts store.mask base) (image f)) → EndsClosed (texts store.mask batches) (image store.log.file) → coins_at_places store.mask image store.index ≡ rows_after base batches
+coins_in store base batches k image stands closed =
     let file = store.log.file in
-    let begun : Stand (image file) 0 (records (texts store.mask batches)) (closed.gate ∷ closed.rest) = record { front = []; is = closed.is; reach = refl } in
-    let none : Mean store.mask image empty empty = λ q. ap (λ (p : Option CoinPlace). p >>= coin_there store.mask image) (get-empty outpoint_cmp q) ∙ sym (get-empty outpoint_cmp q) in
-    same_map outpoint_cmp_total outpoint_cmp-IsAntisymmetric (coins_at_places store.mask image store.index) (rows_after batches) (λ q.
+    let places = base_places store.base store.mask base in
+    let first = base_means store.base store.mask image base k.base_fits k.base_none stands in
+    same_map outpoint_cmp_total outpoint_cmp-IsAntisymmetric (coins_at_places store.mask image store.index) (rows_after base batches) (λ q.
     seen store.mask image store.index q
     ∙ live_means store.mask image (get store.index q)
     ∙ ap (λ (p : Option CoinPlace). p >>= coin_there store.mask image) (k.places q)
-    ∙ batches_mean file store.mask image 0 batches (closed.gate ∷ closed.rest) empty empty k.fits begun none q)
+    ∙ batches_mean file store.mask image 0 batches (closed.gate ∷ closed.rest) places (base_coins base) k.fits (begun (texts store.mask batches) (image file) closed) first q)
+
+some_is : {A : Type 0} (x y : A) → Some x ≡ Some y → x ≡ y
+some_is x y e = cc
 
 -- the coins of a store, as the disk reads
-pub held_coins : (contents : Option Image) (left : Image → Type 0) (store : CoinStore) (batches : List Batch) → Holds contents left store batches → coins_seen store contents ≡ Some (rows_after batches)
-held_coins contents left store batches h =
-    ap (λ (o : Option Image). coins_seen store o) h.stands.holds.told ∙ ap (λ (c : Coins). Some c) (coins_in store batches h.knows h.stands.holds.image h.stands.holds.reads)
+pub held_coins : (contents : Option Image) (left : Image → Type 0) (store : CoinStore) (base : List (List Row)) (batches : List Batch) → Holds contents left store base batches → coins_seen store contents ≡ Some (rows_after base batches)
+held_coins contents left store base batches h =
+    let image = h.stands.holds.image in
+    let stands : (f : ℕ) → store.base ≡ Some f → EndsClosed (base_texts store.mask base) (image f) =
+    λ f is. let b = h.base_stands f is in subst (λ (i : Image). EndsClosed (base_texts store.mask base) (i f)) (some_is b.image image (sym b.told ∙ h.stands.holds.told)) b.reads in
+    ap (λ (o : Option Image). coins_seen store o) h.stands.holds.told ∙ ap (λ (c : Coins). Some c) (coins_in store base batches h.knows image stands h.stands.holds.reads)
 
 -- ---- which outpoints have coins
 
@@ -161,6 +197,19 @@ batches_match file mask gate (batch ∷ batches) places coins all =
     batches_match file mask (gate + (5 + length (batch_text mask batch))) batches (places_after_batch file mask gate places batch) (coins_after_rows coins batch.rows)
     (rows_match file mask gate (length (marker_text batch.marker)) batch.rows places coins all)
 
-pub coins_known : (store : CoinStore) (batches : List Batch) → Knows store batches → (q : OutPoint) → is_some (live (get store.index q)) ≡ is_some (get (rows_after batches) q)
-coins_known store batches k q =
-    ap is_some (k.places q) ∙ batches_match store.log.file store.mask 0 batches empty empty (λ o. ap is_some (get-empty outpoint_cmp o) ∙ ap is_some (sym (get-empty outpoint_cmp o))) q
+base_match : (file : ℕ) (mask : List ℕ) (gate : ℕ) (base : List (List Row)) (places : CoinPlaces) (coins : Coins) → Match places coins → Match (places_after_base file mask gate places base) (coins_after_base coins base)
+base_match file mask gate [] places coins all = all
+base_match file mask gate (rows ∷ base) places coins all =
+    base_match file mask (gate + (5 + length (rows_text mask rows))) base (places_after_rows file mask gate 0 places rows) (coins_after_rows coins rows) (rows_match file mask gate 0 rows places coins all)
+
+none_match : Match empty empty
+none_match q = ap is_some (get-empty outpoint_cmp q) ∙ ap is_some (sym (get-empty outpoint_cmp q))
+
+base_matches : (file : Option ℕ) (mask : List ℕ) (base : List (List Row)) → (file ≡ None → base ≡ []) → Match (base_places file mask base) (base_coins base)
+base_matches None mask base none = subst (λ (b : List (List Row)). Match empty (base_coins b)) (sym (none refl)) none_match
+base_matches (Some file) mask base none = base_match file mask 0 base empty empty none_match
+
+pub coins_known : (store : CoinStore) (base : List (List Row)) (batches : List Batch) → Knows store base batches → (q : OutPoint) → is_some (live (get store.index q)) ≡ is_some (get (rows_after base batches) q)
+coins_known store base batches k q =
+    ap is_some (k.places q)
+    ∙ batches_match store.log.file store.mask 0 batches (base_places store.base store.mask base) (base_coins base) (base_matches store.base store.mask base k.base_none) q

@@ -1,7 +1,10 @@
+pub mod Base
+pub mod BaseLaws
 pub mod BatchLaws
 pub mod BatchReads
 pub mod Batches
 pub mod Examples
+pub mod Files
 pub mod HeldCoins
 pub mod IndexKeys
 pub mod IndexMaps

@@ -25,10 +25,6 @@ abbrev pub coins_after : Coins → List Batch → Coins
 coins_after coins [] = coins
 coins_after coins (batch ∷ batches) = coins_after (coins_after_rows coins batch.rows) batches
 
--- the coins after all batches
-abbrev pub rows_after : List Batch → Coins
-rows_after batches = coins_after empty batches
-
 -- ---- their places
 
 abbrev pub CoinPlaces : Type 0

@@ -36,9 +36,10 @@ pub record IsReady (store : CoinStore) (marker : Marker) : Type 0 where
   pub staged : IsStaged store keys payload (1 + payloads) (5 + length (batch_text store.mask (record { marker = marker; rows = rows })) + total) rows
   pub fits : length (batch_text store.mask (record { marker = marker; rows = rows })) ≤ payload
 
--- the same file and limit, the same covering and the same start
+-- the same files and limit, the same covering and the same start
 pub record SameStore (old new : CoinStore) : Type 0 where
   pub file : new.log.file ≡ old.log.file
+  pub base : new.base ≡ old.base
   pub limit : new.log.limit ≡ old.log.limit
   pub mask : new.mask ≡ old.mask
   pub start : new.start ≡ old.start
@@ -46,6 +47,7 @@ pub record SameStore (old new : CoinStore) : Type 0 where
 -- and the same markers and places: no batch was added, and no room was lost
 pub record SameRows (old new : CoinStore) : Type 0 where
   pub log : Unchanged old.log new.log
+  pub base : new.base ≡ old.base
   pub mask : new.mask ≡ old.mask
   pub start : new.start ≡ old.start
   pub markers : new.markers.items ≡ old.markers.items

@@ -1,13 +1,14 @@
 -- A store that no batch was added to knows the same ones, and a row fits where its bytes were prepared.
-use Rattle.std.specs.Prelude.{ℕ, ◌+◌, ◌≤◌, List, length, Option, vec_len, vec_capacity}
-use Rattle.std.specs.FinMap.{get, empty}
+use Rattle.std.specs.Prelude.{ℕ, ◌+◌, ◌≤◌, List, length, Option, Some, vec_len, vec_capacity}
+use Rattle.std.specs.FinMap.{get}
 use Rattle.std.proofs.Common.{sym, ap, subst, ◌∙◌, arith}
 use Rattle.std.proofs.lemmas.List.{length-drop}
 use Rattle.disk_model.specs.Disk.{Image}
 use Rattle.base_types.specs.declared.hash.OutPoint.{OutPoint}
 use Rattle.batch_log.specs.OpenLog.{OpenLog, Stands, Unchanged}
-use Rattle.batch_log.specs.Records.{EndsClosed}
+use Rattle.batch_log.specs.Records.{EndsClosed, HoldsLog}
 use Rattle.coin_store.specs.declared.store.CoinStore.{CoinStore}
+use Rattle.coin_store.specs.Base.{base_texts, base_places}
 use Rattle.coin_store.specs.Batches.{Row, Batch, row_text, rows_text}
 use Rattle.coin_store.specs.Places.{places_after}
 use Rattle.coin_store.specs.Staging.{IsStaged, SameRows}
@@ -27,19 +28,24 @@ stands_unchanged contents left old new payloads same stands =
       places = same.places ∙ stands.places;
     }
 
-pub knows_same : (old new : CoinStore) (batches : List Batch) → SameRows old new → Knows old batches → Knows new batches
-knows_same old new batches same k = record {
+pub knows_same : (old new : CoinStore) (base : List (List Row)) (batches : List Batch) → SameRows old new → Knows old base batches → Knows new base batches
+knows_same old new base batches same k = record {
+  base_fits = k.base_fits;
+  base_none = λ none. k.base_none (sym same.base ∙ none);
   fits = k.fits;
   markers = same.markers ∙ k.markers ∙ ap (λ (m : List ℕ). marks m 0 batches) (sym same.mask);
   places = λ q. same.places q ∙ k.places q
-      ∙ ap (λ (f : ℕ). get (places_after f old.mask 0 empty batches) q) (sym same.log.file)
-      ∙ ap (λ (m : List ℕ). get (places_after new.log.file m 0 empty batches) q) (sym same.mask);
+      ∙ ap (λ (f : ℕ). get (places_after f old.mask 0 (base_places old.base old.mask base) batches) q) (sym same.log.file)
+      ∙ ap (λ (b : Option ℕ). get (places_after new.log.file old.mask 0 (base_places b old.mask base) batches) q) (sym same.base)
+      ∙ ap (λ (m : List ℕ). get (places_after new.log.file m 0 (base_places new.base m base) batches) q) (sym same.mask);
 }
 
-pub holds_same : (contents : Option Image) (left : Image → Type 0) (old new : CoinStore) (batches : List Batch) → SameRows old new → Holds contents left old batches → Holds contents left new batches
-holds_same contents left old new batches same h = record {
-  knows = knows_same old new batches same h.knows;
+pub holds_same : (contents : Option Image) (left : Image → Type 0) (old new : CoinStore) (base : List (List Row)) (batches : List Batch) → SameRows old new → Holds contents left old base batches → Holds contents left new base batches
+holds_same contents left old new base batches same h = record {
+  knows = knows_same old new base batches same h.knows;
   stands = subst (λ (m : List ℕ). Stands contents left new.log (texts m batches)) (sym same.mask) (stands_unchanged contents left old.log new.log (texts old.mask batches) same.log h.stands);
+  base_stands = λ file is. subst (λ (m : List ℕ). HoldsLog contents left file (base_texts m base)) (sym same.mask) (h.base_stands file (sym same.base ∙ is));
+  apart = λ is. h.apart (sym same.base ∙ is ∙ ap (λ (f : ℕ). Some f) same.log.file);
 }
 
 -- one more row can be staged where it fits behind a marker `At` and the rows before it

@@ -1,6 +1,6 @@
--- What an open store of coins says of its file.
-use Rattle.std.specs.Prelude.{⊤, ◌≡◌, ◌⊎◌, ℕ, ◌+◌, List, [], ◌∷◌, ◌++◌, length, map, Option, None, Ok, Err}
-use Rattle.std.specs.FinMap.{get, empty}
+-- What an open store of coins says of its files.
+use Rattle.std.specs.Prelude.{⊤, ◌≡◌, ◌≢◌, ◌⊎◌, ℕ, ◌+◌, List, [], ◌∷◌, ◌++◌, length, map, Option, Some, None, Ok, Err}
+use Rattle.std.specs.FinMap.{get}
 use Rattle.std.specs.List.{AllByRecursion}
 use Rattle.disk_model.specs.Disk.{Image, Rose}
 use Rattle.base_types.specs.declared.fault.StoreFault.{StoreFault}
@@ -8,12 +8,15 @@ use Rattle.base_types.specs.declared.fault.StoreFault.TheVariants.{NoMemory, Dis
 use Rattle.base_types.specs.declared.hash.Hash32.{Hash32}
 use Rattle.base_types.specs.declared.hash.OutPoint.{OutPoint}
 use Rattle.batch_log.specs.OpenLog.{Stands}
-use Rattle.batch_log.specs.Records.{records, log}
+use Rattle.batch_log.specs.Records.{records, log, HoldsLog}
+use Rattle.coin_store.specs.declared.kind.Kind.{Kind}
+use Rattle.coin_store.specs.declared.kind.Kind.TheVariants.{Base, Coins}
 use Rattle.coin_store.specs.declared.marker.Marker.{Marker}
 use Rattle.coin_store.specs.declared.marker.Marker.TheVariants.{At}
 use Rattle.coin_store.specs.declared.store.CoinStore.{CoinStore}
 use Rattle.coin_store.specs.declared.store.Marked.{Marked}
-use Rattle.coin_store.specs.Batches.{Batch, batch_text, BatchFits}
+use Rattle.coin_store.specs.Base.{BaseFits, base_of, base_texts, base_places, IsBase}
+use Rattle.coin_store.specs.Batches.{Row, Batch, rows_text, batch_text, BatchFits}
 use Rattle.coin_store.specs.Places.{places_after, live}
 use Rattle.coin_store.specs.Reading.{batch_of}
 
@@ -39,41 +42,56 @@ as_pair marked = (marked.marker, marked.at)
 abbrev pub texts : List ℕ → List Batch → List (List ℕ)
 texts mask batches = map (batch_text mask) batches
 
--- the store has the markers and the places of these batches
-pub record Knows (store : CoinStore) (batches : List Batch) : Type 0 where
+-- the store has the markers of these batches, and the places of the base's coins with those of the batches
+pub record Knows (store : CoinStore) (base : List (List Row)) (batches : List Batch) : Type 0 where
+  pub base_fits : AllByRecursion BaseFits base
+  pub base_none : store.base ≡ None → base ≡ []
   pub fits : AllByRecursion BatchFits batches
   pub markers : store.markers.items ≡ marks store.mask 0 batches
-  pub places : (q : OutPoint) → live (get store.index q) ≡ get (places_after store.log.file store.mask 0 empty batches) q
+  pub places : (q : OutPoint) → live (get store.index q) ≡ get (places_after store.log.file store.mask 0 (base_places store.base store.mask base) batches) q
 
--- and they are its file's as it reads and after each crash
-pub record Holds (contents : Option Image) (left : Image → Type 0) (store : CoinStore) (batches : List Batch) : Type 0 where
-  pub knows : Knows store batches
+-- and they are those of its two files as these read and after each crash
+pub record Holds (contents : Option Image) (left : Image → Type 0) (store : CoinStore) (base : List (List Row)) (batches : List Batch) : Type 0 where
+  pub knows : Knows store base batches
   pub stands : Stands contents left store.log (texts store.mask batches)
+  pub base_stands : (file : ℕ) → store.base ≡ Some file → HoldsLog contents left file (base_texts store.mask base)
+  pub apart : store.base ≢ Some store.log.file
 
 -- what the store was opened with
-pub record IsOpened (file limit : ℕ) (mask : List ℕ) (start : Hash32) (store : CoinStore) : Type 0 where
+pub record IsOpened (file : ℕ) (base : Option ℕ) (limit : ℕ) (mask : List ℕ) (start : Hash32) (store : CoinStore) : Type 0 where
   pub file_is : store.log.file ≡ file
+  pub base_is : store.base ≡ base
   pub limit_is : store.log.limit ≡ limit
   pub mask_is : store.mask ≡ mask
   pub start_is : store.start ≡ At start
 
--- the first payload that is no batch has its gate there
-pub record FirstBroken (mask : List ℕ) (payloads : List (List ℕ)) (at : ℕ) : Type 0 where
-  pub batches : List Batch
+-- the first payload that can't be read has its gate there; those before it are the texts of what was read
+pub record FirstBroken {P : Type 0} (text : P → List ℕ) (Fits : P → Type 0) (read : List ℕ → Option P) (payloads : List (List ℕ)) (at : ℕ) : Type 0 where
+  pub before : List P
   pub payload : List ℕ
   pub others : List (List ℕ)
-  pub fits : AllByRecursion BatchFits batches
-  pub is : payloads ≡ texts mask batches ++ payload ∷ others
-  pub broken : batch_of mask payload ≡ None
-  pub gate : at ≡ length (records (texts mask batches))
+  pub fits : AllByRecursion Fits before
+  pub is : payloads ≡ map text before ++ payload ∷ others
+  pub broken : read payload ≡ None
+  pub gate : at ≡ length (records (map text before))
 
--- where damage is answered, the log is damaged at that gate, or its first payload that is no batch begins there
-abbrev pub DamageIn : List ℕ → List ℕ → StoreFault → Type 0
-DamageIn mask bytes (Damaged file at) = (log bytes ≡ Err at) ⊎ ((payloads : List (List ℕ)) × (log bytes ≡ Ok payloads) × FirstBroken mask payloads at)
-DamageIn mask bytes NoMemory = ⊤
-DamageIn mask bytes DiskFailed = ⊤
-DamageIn mask bytes (Full file) = ⊤
-DamageIn mask bytes CacheFull = ⊤
+abbrev pub FirstBrokenAs : Kind → List ℕ → List (List ℕ) → ℕ → Type 0
+FirstBrokenAs Base mask payloads at = FirstBroken (rows_text mask) BaseFits (base_of mask) payloads at
+FirstBrokenAs Coins mask payloads at = FirstBroken (batch_text mask) BatchFits (batch_of mask) payloads at
+
+-- the log is damaged at that gate, or its first payload that isn't of this kind begins there
+abbrev pub DamagedAs : Kind → List ℕ → List ℕ → ℕ → Type 0
+DamagedAs kind mask bytes at = (log bytes ≡ Err at) ⊎ ((payloads : List (List ℕ)) × (log bytes ≡ Ok payloads) × FirstBrokenAs kind mask payloads at)
+
+-- where damage is answered, it is that of the base file, or that of the coin file where the base file has none
+abbrev pub DamageIn : List ℕ → Option ℕ → ℕ → Image → StoreFault → Type 0
+DamageIn mask base_file coin_file m (Damaged file at) =
+    ((base_file ≡ Some file) × DamagedAs Base mask (m file) at)
+    ⊎ ((file ≡ coin_file) × ((base : List (List Row)) × IsBase mask base_file m base) × DamagedAs Coins mask (m coin_file) at)
+DamageIn mask base_file coin_file m NoMemory = ⊤
+DamageIn mask base_file coin_file m DiskFailed = ⊤
+DamageIn mask base_file coin_file m (Full file) = ⊤
+DamageIn mask base_file coin_file m CacheFull = ⊤
 
 -- why a record may not be read
 abbrev pub RecordCause : ℕ → ℕ → ℕ → ℕ → StoreFault → Type 0

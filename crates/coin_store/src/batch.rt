@@ -1,16 +1,18 @@
-//! The places of the coins of whole batches.
+//! The places of the coins of whole payloads.
 
-ghost use Rattle.std.specs.Prelude.{◌≡◌, ℕ, ◌+◌, ◌^◌, ◌<◌, ◌≤◌, List, length, Option, Some, None, IfOk, IfErr, OnOk};
+ghost use Rattle.std.specs.Prelude.{◌≡◌, ℕ, ◌+◌, ◌^◌, ◌<◌, ◌≤◌, List, length, drop, Option, Some, None, IfOk, IfErr, OnOk};
 ghost use Rattle.base_types.specs.declared.coin.Coin.{Coin};
 ghost use Rattle.coin_store.specs.Batches.{Row};
-ghost use Rattle.coin_store.specs.BatchReads.{IsHash, IsMarker, HasBatch, NotesRow};
+ghost use Rattle.coin_store.specs.Base.{base_of};
+ghost use Rattle.coin_store.specs.BatchReads.{IsHash, IsMarker, HasRows, HasBatch, HasBaseRows, HasPayload, IsNone, NotesRow};
 ghost use Rattle.coin_store.specs.Places.{CoinPlaces, places_after_rows};
-ghost use Rattle.coin_store.specs.Reading.{batch_of};
+ghost use Rattle.coin_store.specs.Reading.{rows_of, batch_of};
 ghost use Rattle.coin_store.specs.Rows.{IsBrokenBy};
 ghost use Rattle.coin_store.specs.Staged.{AreRows, Agrees, KeepsEntries};
 
 use crate::cover::Mask;
 use crate::index::Index;
+use crate::kind::Kind;
 use crate::marker::Marker;
 use crate::places::CoinPlace;
 use crate::row::{RowFault, RowHead, read_head, read_row};
@@ -88,9 +90,39 @@ fn note(index: &mut Index, gate: Gate, offset: usize, row: &RowHead) -> Result<(
     index.set(&row.key, place_of(gate, offset, row))
 }
 
-/// Reads a payload and keeps the places of its coins, which it uncovers where they stand. After an error the places may
-/// be those after the rows that were read.
-pub fn read_batch(
+/// Reads the rows from an offset of a payload to its end and keeps the places of their coins, which it uncovers where they
+/// stand. Answers whether each row has a coin. After an error the places may be those after the rows that were read.
+fn read_rows(
+    alloc: Global,
+    payload: &mut [u8],
+    start: usize,
+    gate: Gate,
+    mask: &Mask,
+    index: &mut Index,
+) -> Result<bool, RowFault>
+    requires fits { gate.at + (5 + length payload.old) < 2 ^ 64 }
+    requires len { length payload.old < 2 ^ 32 }
+    ensures ok { IfOk result (HasRows gate.file gate.at start mask.now (drop start payload.old) index.old index.new) }
+    ensures broken { IfErr result (IsBrokenBy (rows_of mask.now (length (drop start payload.old)) (drop start payload.old) ≡ None)) }
+{
+    let mut at = start;
+    let mut coins = true;
+    while at < payload.len() {
+        let row = match read_row(alloc, &mut payload[at..], mask) {
+            Ok(row) => row,
+            Err(fault) => return Err(fault),
+        };
+        let Ok(()) = note(index, gate, at, &row) else {
+            return Err(RowFault::NoMemory);
+        };
+        coins &= row.len > 0;
+        at += row.from + row.len;
+    }
+    Ok(coins)
+}
+
+// Reads a marker and rows.
+fn read_batch(
     alloc: Global,
     payload: &mut [u8],
     gate: Gate,
@@ -106,18 +138,58 @@ pub fn read_batch(
     let Some(marker) = marker_of(&mut cursor) else {
         return Err(RowFault::Broken);
     };
-    let mut at = cursor.place();
-    while at < payload.len() {
-        let row = match read_row(alloc, &mut payload[at..], mask) {
-            Ok(row) => row,
-            Err(fault) => return Err(fault),
-        };
-        let Ok(()) = note(index, gate, at, &row) else {
-            return Err(RowFault::NoMemory);
-        };
-        at += row.from + row.len;
+    let start = cursor.place();
+    match read_rows(alloc, payload, start, gate, mask, index) {
+        Ok(_) => Ok(marker),
+        Err(fault) => Err(fault),
     }
-    Ok(marker)
+}
+
+// Reads rows, each of which must have a coin.
+fn read_base(
+    alloc: Global,
+    payload: &mut [u8],
+    gate: Gate,
+    mask: &Mask,
+    index: &mut Index,
+) -> Result<(), RowFault>
+    requires fits { gate.at + (5 + length payload.old) < 2 ^ 64 }
+    requires len { length payload.old < 2 ^ 32 }
+    ensures ok { OnOk result (HasBaseRows gate.file gate.at mask.now payload.old index.old index.new) }
+    ensures broken { IfErr result (IsBrokenBy (base_of mask.now payload.old ≡ None)) }
+{
+    match read_rows(alloc, payload, 0, gate, mask, index) {
+        Ok(true) => Ok(()),
+        Ok(false) => Err(RowFault::Broken),
+        Err(fault) => Err(fault),
+    }
+}
+
+/// Reads a payload and keeps the places of its coins, which it uncovers where they stand. Answers its marker, which one of
+/// a base doesn't have. After an error the places may be those after the rows that were read.
+pub fn read_payload(
+    alloc: Global,
+    payload: &mut [u8],
+    kind: Kind,
+    gate: Gate,
+    mask: &Mask,
+    index: &mut Index,
+) -> Result<Option<Marker>, RowFault>
+    requires fits { gate.at + (5 + length payload.old) < 2 ^ 64 }
+    requires len { length payload.old < 2 ^ 32 }
+    ensures ok { IfOk result (HasPayload kind gate.file gate.at mask.now payload.old index.old index.new) }
+    ensures broken { IfErr result (IsBrokenBy (IsNone kind mask.now payload.old)) }
+{
+    match kind {
+        Kind::Base => match read_base(alloc, payload, gate, mask, index) {
+            Ok(()) => Ok(None),
+            Err(fault) => Err(fault),
+        },
+        Kind::Coins => match read_batch(alloc, payload, gate, mask, index) {
+            Ok(marker) => Ok(Some(marker)),
+            Err(fault) => Err(fault),
+        },
+    }
 }
 
 /// Keeps the places of the coins of these rows, the first of which stands at that offset of the payload. Each row's outpoint

@@ -1,12 +1,14 @@
 //! The coins of a chainstate as rows in a log: each payload is a marker, which names the block that the coins are those
-//! of, and rows, each an outpoint with its coin or with none. A later row overrules an earlier one. In memory are the
-//! places of the coins alone; a view reads a coin from its place.
+//! of, and rows, each an outpoint with its coin or with none. A later row overrules an earlier one. Before them may stand
+//! the rows of a base, a log whose payloads are rows with coins alone. In memory are the places of the coins alone; a view
+//! reads a coin from its place.
 #![tactic(auto)]
 
 mod batch;
 mod cover;
 mod index;
 mod key_order;
+mod kind;
 mod marker;
 mod opening;
 mod places;

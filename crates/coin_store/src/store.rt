@@ -1,12 +1,10 @@
 //! The store itself.
 
-ghost use Rattle.std.specs.Prelude.{◌≡◌, ℕ, ◌+◌, ◌-◌, ◌^◌, ◌<◌, ◌≤◌, List, [], ◌∷◌, ◌++◌, length, drop, Contains, vec_len, vec_capacity, Option, Some, None, Ok, Err, slice_get, option_map, is_some, IfOk, IfErr, OnOk, OnErr};
+ghost use Rattle.std.specs.Prelude.{◌≡◌, ◌≢◌, ℕ, ◌+◌, ◌-◌, ◌^◌, ◌<◌, ◌≤◌, List, [], ◌∷◌, ◌++◌, length, drop, Contains, vec_len, vec_capacity, Option, Some, None, Ok, Err, slice_get, option_map, is_some, IfOk, IfErr, OnOk, OnErr};
 ghost use Rattle.std.specs.Option.{option_copied};
 ghost use Rattle.disk_model.specs.Disk.{At, Torn, Leaves, Quiet, Only, OthersKept, Told, Rose, changed_at, written};
 ghost use Rattle.batch_log.specs.OpenLog.{IsOver, RoomCause};
 ghost use Rattle.batch_log.specs.declared.places.Place.{Place};
-ghost use Rattle.batch_log.specs.Opening.{OpenCause};
-ghost use Rattle.batch_log.specs.Reading.{ReadAtMost};
 ghost use Rattle.batch_log.specs.Records.{body, log as log_of, SameLog, WithOrWithout};
 ghost use Rattle.std.specs.FinMap.{get};
 ghost use Rattle.std.specs.List.{list_any, IsDistinct};
@@ -17,15 +15,17 @@ ghost use Rattle.base_types.specs.declared.fault.StoreFault.TheVariants.{NoMemor
 ghost use Rattle.base_types.specs.declared.hash.OutPoint.{OutPoint};
 ghost use Rattle.coin_store.specs.KeyOrder.{key_order};
 ghost use Rattle.coin_store.specs.Batches.{Batch, Row, row_text, marker_text, batch_text, ValueFits, RowFits, MarkerFits};
-ghost use Rattle.coin_store.specs.Places.{CoinPlaces, live, rows_after, places_after_rows};
+ghost use Rattle.coin_store.specs.Base.{IsBase, rows_after};
+ghost use Rattle.coin_store.specs.Places.{CoinPlaces, live, places_after_rows};
 ghost use Rattle.coin_store.specs.Staged.{AreRows, Agrees, KeepsEntries};
 
 use crate::batch::{Gate, note_rows};
 use crate::cover::Mask;
 use crate::index::Index;
 use crate::key_order::in_key_order;
+use crate::kind::Kind;
 use crate::marker::Marker;
-use crate::opening::read_log;
+use crate::opening::{ReadLog, open_base, open_log};
 use crate::places::CoinPlace;
 use crate::staging::{FRONT, last_gate, make_bytes, put_marker, put_row};
 use crate::view::StoreView;
@@ -41,12 +41,15 @@ pub struct Marked {
     pub at: u64,
 }
 
-/// The coins of a chainstate: the log of their batches, the markers of these, and the place of each coin.
+/// The coins of a chainstate: the log of their batches, the markers of these, and the place of each coin, in the log or in
+/// the base file.
 #[derive(Drop)]
 pub struct CoinStore {
     log: Log,
     // The number of the log's file.
     file: u32,
+    // The number of the base file, if there is one.
+    base: Option<u32>,
     mask: Mask,
     start: Marker,
     markers: Vec<Marked>,
@@ -58,13 +61,16 @@ pub struct CoinStore {
 }
 
 impl CoinStore {
+    ghost use Rattle.coin_store.specs.Files.{IsOneOf, InFiles, OthersKeptBut, FilesCause, store_reads, ReadWithin};
     ghost use Rattle.coin_store.specs.Store.{Knows, Holds, IsOpened, DamageIn, marks, texts, last_marker, marker_after, as_pair};
     ghost use Rattle.coin_store.specs.Staging.{IsStaged, IsReady, SameStore, SameRows, staged_text};
     ghost use Rattle.coin_store.specs.Viewing.{coins_seen};
 
-    /// Opens the store in a file: reads its log once, and keeps the markers and the place of each coin. With no payload
-    /// the marker is `At` the start. The coins of rows are covered by the key. `Damaged` names the gate where the log is
-    /// damaged, or that of the first payload that isn't a marker and rows to its end.
+    /// Opens the store in a coin file, on the base file if one is named: reads their logs once, that of the base first, and
+    /// keeps the markers and the place of each coin. The rows of the coin file overrule those of the base. With no payload
+    /// in the coin file the marker is `At` the start. The coins of rows are covered by the key. `Damaged` names the gate
+    /// where a log is damaged, or that of the first payload that isn't rows with coins to its end, in the base file, or a
+    /// marker and rows to its end, in the coin file.
     pub fn open<D: Disk>(
         alloc: Global,
         disk: &mut D,
@@ -76,54 +82,54 @@ impl CoinStore {
         key: Mask,
     ) -> Result<CoinStore, StoreFault>
         requires limit { limits.now.file_bytes ≤ 2 ^ 63 }
-        requires no_base { base_file ≡ None }
         ensures ok { (m : ℕ → List ℕ) → D.contents disk.old ≡ Some m
-            → IfOk result (λ s. (batches : List Batch) × (log_of (m coin_file) ≡ Ok (texts key batches)) × Holds (D.contents disk.new) (D.left_since disk.new (D.time disk.new)) s batches) }
-        ensures opened { IfOk result (IsOpened coin_file limits.now.file_bytes key start.now) }
-        ensures damaged { (m : ℕ → List ℕ) → D.contents disk.old ≡ Some m → IfErr result (DamageIn key (m coin_file)) }
-        ensures cause { IfErr result (OpenCause coin_file (D.faults disk.old) (D.faults disk.new)) }
+            → IfOk result (λ s. (base : List (List Row)) × (batches : List Batch) × IsBase key base_file m base × (log_of (m coin_file) ≡ Ok (texts key batches))
+            × (base_file ≢ Some coin_file → Holds (D.contents disk.new) (D.left_since disk.new (D.time disk.new)) s base batches)) }
+        ensures opened { IfOk result (IsOpened coin_file base_file limits.now.file_bytes key start.now) }
+        ensures damaged { (m : ℕ → List ℕ) → D.contents disk.old ≡ Some m → IfErr result (DamageIn key base_file coin_file m) }
+        ensures cause { IfErr result (FilesCause (IsOneOf base_file coin_file) (D.faults disk.old) (D.faults disk.new)) }
         ensures faults { D.faults disk.old ≤ D.faults disk.new }
 
-        // At any moment the file stands for the same payloads.
-        ensures any_moment { (m : ℕ → List ℕ) → D.contents disk.old ≡ Some m → Leaves D.time D.left_since (At coin_file SameLog) disk.old disk.new }
+        // At any moment the files stand for the same payloads.
+        ensures any_moment { (m : ℕ → List ℕ) → D.contents disk.old ≡ Some m → Leaves D.time D.left_since (InFiles (IsOneOf base_file coin_file) SameLog) disk.old disk.new }
 
         // A file of more than one byte stays, and any other becomes one closed gate.
-        ensures long { (m : ℕ → List ℕ) → D.contents disk.old ≡ Some m → 1 < length (m coin_file)
+        ensures long { (m : ℕ → List ℕ) → D.contents disk.old ≡ Some m → ((f : ℕ) → IsOneOf base_file coin_file f → 1 < length (m f))
             → (D.contents disk.new ≡ D.contents disk.old) × Quiet D.time D.left_since disk.old disk.new }
-        ensures tiny { (m : ℕ → List ℕ) → D.contents disk.old ≡ Some m → length (m coin_file) ≤ 1 → OnOk result (Only coin_file (0 ∷ []) (D.left_since disk.new (D.time disk.new))) }
+        ensures tiny { (m : ℕ → List ℕ) (f : ℕ) → D.contents disk.old ≡ Some m → IsOneOf base_file coin_file f → length (m f) ≤ 1
+            → OnOk result (Only f (0 ∷ []) (D.left_since disk.new (D.time disk.new))) }
 
-        // Whatever is known of the file, no more than its first byte is written, and other files stay.
-        ensures part { Leaves D.time D.left_since (At coin_file (Torn 0 1)) disk.old disk.new }
-        ensures others { OthersKept coin_file (D.contents disk.old) (D.contents disk.new) }
+        // Whatever is known of the files, no more than their first bytes are written, and other files stay.
+        ensures part { Leaves D.time D.left_since (InFiles (IsOneOf base_file coin_file) (Torn 0 1)) disk.old disk.new }
+        ensures others { OthersKeptBut (IsOneOf base_file coin_file) (D.contents disk.old) (D.contents disk.new) }
 
-        // It reads at most five bytes more than the file has.
-        ensures read { (m : ℕ → List ℕ) → D.contents disk.old ≡ Some m → ReadAtMost coin_file (length (m coin_file) + 5) (D.bytes_read disk.old) (D.bytes_read disk.new) }
+        // It reads at most five bytes more than each file has.
+        ensures read { (m : ℕ → List ℕ) → D.contents disk.old ≡ Some m → ReadWithin (store_reads base_file coin_file m) (D.bytes_read disk.old) (D.bytes_read disk.new) }
     {
-        let log = match Log::open(alloc, disk, coin_file, limits) {
-            Ok(log) => log,
-            Err(fault) => return Err(fault),
-        };
         let mut index = Index::new(alloc, salt);
-        let markers = match read_log(alloc, disk, &log, coin_file, &key, &mut index) {
-            Ok(markers) => markers,
-            Err(fault) => return Err(fault),
-        };
-        Ok(CoinStore {
-            log,
-            file: coin_file,
-            mask: key,
-            start: Marker::At { tip: *start },
-            markers,
-            index,
-            staged: Vec::new(alloc),
-            alloc,
-        })
+        if let Err(fault) = open_base(alloc, disk, base_file, limits, &key, &mut index) {
+            return Err(fault);
+        }
+        match open_log(alloc, disk, coin_file, Kind::Coins, limits, &key, &mut index) {
+            Ok(ReadLog { log, markers }) => Ok(CoinStore {
+                log,
+                file: coin_file,
+                base: base_file,
+                mask: key,
+                start: Marker::At { tip: *start },
+                markers,
+                index,
+                staged: Vec::new(alloc),
+                alloc,
+            }),
+            Err(fault) => Err(fault),
+        }
     }
 
     /// The last batch's marker, or `At` the start.
     pub fn marker(&self) -> Marker
         ensures last { result ≡ last_marker self.now.start self.now.markers.items }
-        ensures held { (batches : List Batch) → Knows self.now batches → result ≡ marker_after self.now.start batches }
+        ensures held { (base : List (List Row)) (batches : List Batch) → Knows self.now base batches → result ≡ marker_after self.now.start batches }
     {
         match self.markers.last() {
             Some(marked) => marked.marker,
@@ -134,7 +140,7 @@ impl CoinStore {
     /// The marker of that payload, counted from 0, and the offset of its gate. None where there is no such payload.
     pub fn marker_at(&self, number: u64) -> Option<(Marker, u64)>
         ensures is { result ≡ option_map as_pair (slice_get self.now.markers.items number) }
-        ensures held { (batches : List Batch) → Knows self.now batches → result ≡ option_map as_pair (slice_get (marks self.now.mask 0 batches) number) }
+        ensures held { (base : List (List Row)) (batches : List Batch) → Knows self.now base batches → result ≡ option_map as_pair (slice_get (marks self.now.mask 0 batches) number) }
     {
         match self.markers.get(number as usize) {
             Some(marked) => Some((marked.marker, marked.at)),
@@ -145,7 +151,7 @@ impl CoinStore {
     /// The outpoints that have coins, in the order of their key texts.
     pub fn keys(&self, alloc: Global) -> Result<Keys, StoreFault>
         ensures found { IfOk result (λ keys. (q : OutPoint) → list_any (eq_by_cmp outpoint_cmp q) keys ≡ is_some (live (get self.now.index q))) }
-        ensures held { (batches : List Batch) → Knows self.now batches → IfOk result (λ keys. (q : OutPoint) → list_any (eq_by_cmp outpoint_cmp q) keys ≡ is_some (get (rows_after batches) q)) }
+        ensures held { (base : List (List Row)) (batches : List Batch) → Knows self.now base batches → IfOk result (λ keys. (q : OutPoint) → list_any (eq_by_cmp outpoint_cmp q) keys ≡ is_some (get (rows_after base batches) q)) }
         ensures once { IfOk result (IsDistinct (eq_by_cmp outpoint_cmp)) }
         ensures sorted { IfOk result (IsSorted key_order) }
         ensures cause { IfErr result (λ e. e ≡ NoMemory) }
@@ -166,7 +172,7 @@ impl CoinStore {
     pub fn prepare(&mut self, keys: &[OutPoint], payload: u32, total: u64) -> Result<(), StoreFault>
         ensures ok { OnOk result (IsStaged self.new keys.now payload (1 + length keys.now) total []) }
         ensures same { SameRows self.old self.new }
-        ensures knows { (batches : List Batch) → Knows self.old batches → Knows self.new batches }
+        ensures knows { (base : List (List Row)) (batches : List Batch) → Knows self.old base batches → Knows self.new base batches }
         ensures full { IsOver self.old.log total → result ≡ Err (StoreFault.Full self.old.log.file) }
         ensures cause { IfErr result (RoomCause self.old.log total) }
     {
@@ -197,14 +203,14 @@ impl CoinStore {
     /// before.
     pub fn apply<D: Disk>(&mut self, disk: &mut D, marker: &Marker) -> Result<(), StoreFault>
         requires { IsReady self.old marker.now }
-        ensures ok { (batches : List Batch) (keys : List OutPoint) (payload payloads total : ℕ) (rows : List Row)
-            → Holds (D.contents disk.old) (D.left_since disk.old (D.time disk.old)) self.old batches
-            → IsStaged self.old keys payload payloads total rows → OnOk result (Holds (D.contents disk.new) (D.left_since disk.new (D.time disk.new)) self.new (batches ++ record { marker = marker.now; rows = rows } ∷ [])) }
+        ensures ok { (base : List (List Row)) (batches : List Batch) (keys : List OutPoint) (payload payloads total : ℕ) (rows : List Row)
+            → Holds (D.contents disk.old) (D.left_since disk.old (D.time disk.old)) self.old base batches
+            → IsStaged self.old keys payload payloads total rows → OnOk result (Holds (D.contents disk.new) (D.left_since disk.new (D.time disk.new)) self.new base (batches ++ record { marker = marker.now; rows = rows } ∷ [])) }
         ensures staged { (keys : List OutPoint) (payload payloads total : ℕ) (rows : List Row)
             → IsStaged self.old keys payload (1 + payloads) (5 + length (batch_text self.old.mask (record { marker = marker.now; rows = rows })) + total) rows
             → OnOk result (IsStaged self.new keys payload payloads total []) }
-        ensures any_moment { (batches : List Batch) (keys : List OutPoint) (payload payloads total : ℕ) (rows : List Row)
-            → Holds (D.contents disk.old) (D.left_since disk.old (D.time disk.old)) self.old batches → IsStaged self.old keys payload payloads total rows
+        ensures any_moment { (base : List (List Row)) (batches : List Batch) (keys : List OutPoint) (payload payloads total : ℕ) (rows : List Row)
+            → Holds (D.contents disk.old) (D.left_since disk.old (D.time disk.old)) self.old base batches → IsStaged self.old keys payload payloads total rows
             → Leaves D.time D.left_since (At self.old.log.file (WithOrWithout (texts self.old.mask batches) (batch_text self.old.mask (record { marker = marker.now; rows = rows })))) disk.old disk.new }
 
         // What is written: the length, the payload and a closed gate, and then the open gate. From Ok on it is durable.
@@ -219,7 +225,7 @@ impl CoinStore {
         ensures read { D.bytes_read disk.new ≡ D.bytes_read disk.old }
         ensures same { SameStore self.old self.new }
         ensures err { OnErr result (SameRows self.old self.new) }
-        ensures knows { (batches : List Batch) → Knows self.old batches → OnErr result (Knows self.new batches) }
+        ensures knows { (base : List (List Row)) (batches : List Batch) → Knows self.old base batches → OnErr result (Knows self.new base batches) }
         ensures cause { IfErr result (λ e. (e ≡ Failed) × Rose (D.faults disk.old) (D.faults disk.new)) }
         ensures faults { D.faults disk.old ≤ D.faults disk.new }
     {
@@ -247,6 +253,7 @@ impl CoinStore {
         ensures entries { KeepsEntries self.old.index self.new.index }
         ensures none_left { (length self.new.staged.items ≡ 65) }
         ensures log { self.new.log ≡ self.old.log }
+        ensures base { self.new.base ≡ self.old.base }
         ensures mask { self.new.mask ≡ self.old.mask }
         ensures start { self.new.start ≡ self.old.start }
     {
@@ -270,8 +277,8 @@ impl CoinStore {
         ensures disk { result.disk.now ≡ disk.old }
         ensures broken { result.broken.items ≡ [] }
 
-        // Where the store holds batches, the coins that the view tells are those after them.
-        ensures held { (batches : List Batch) → Holds (D.contents disk.old) (D.left_since disk.old (D.time disk.old)) self.now batches → coins_seen self.now (D.contents disk.old) ≡ Some (rows_after batches) }
+        // Where the store holds a base and batches, the coins that the view tells are those after them.
+        ensures held { (base : List (List Row)) (batches : List Batch) → Holds (D.contents disk.old) (D.left_since disk.old (D.time disk.old)) self.now base batches → coins_seen self.now (D.contents disk.old) ≡ Some (rows_after base batches) }
     {
         StoreView::new(self, disk)
     }

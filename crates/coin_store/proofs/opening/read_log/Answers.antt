@@ -3,7 +3,7 @@ use Rattle.std.proofs.Common.{◌∙◌, ap, subst, arith}
 use Rattle.disk_model.specs.Moments.{quiet_then}
 use Rattle.batch_log.specs.Reading.{ReadAtMost, read_then, read_wider}
 use Rattle.batch_log.specs.declared.places.Place.{Place}
-use Rattle.coin_store.specs.BatchReads.{HasBatch}
+use Rattle.coin_store.specs.BatchReads.{HasPayload}
 use Rattle.coin_store.proofs.Scanning.{stands_later, payload_at, there, lengths_more, lengths_within, scan_more, scan_faulty, scan_all}
 use Rattle.coin_store.proofs.opening.read_log.Goals as goal
 
@@ -14,7 +14,7 @@ returns-in-Err-clause-damaged g c = λ payloads stands.
     let place : Place = get_or c.places-places.result.now c.loop-i.i (record { at = 0; len = 0 }) in
     let here = there c.args.log.now.places c.places-places.result.now c.loop-i.i (record { at = 0; len = 0 }) c.places-places.ensures.all c.loop-i-test.true in
     let p = payload_at c.args.log.now payloads stands.places c.loop-i.i place here in
-    scan_faulty c.args.file c.args.mask.now payloads c.args.index.now c.loop-i.i place c.loop-i.index c.loop-i.markers.items (i.known payloads stands) p c.in-Err.fault _ _ _ c.in-Err.ensures.cause
+    scan_faulty c.args.file c.args.mask.now payloads c.args.index.now c.args.kind c.loop-i.i place c.loop-i.index c.loop-i.markers.items (i.known payloads stands) p c.in-Err.fault _ _ _ c.in-Err.ensures.cause
     (c.in-Err.ensures.ok payloads c.loop-i.i p.payload now here p.here).1
 
 pub returns-in-Err-clause-read : goal.returns-in-Err-clause-read
@@ -24,8 +24,8 @@ returns-in-Err-clause-read g c =
     let both = read_then c.args.file _ place.len _ _ _ c.loop-i.invariant.read one in
     read_wider c.args.file _ _ _ _ (lengths_within c.args.log.now.places c.places-places.result.now c.loop-i.i (record { at = 0; len = 0 }) c.places-places.ensures.all c.loop-i-test.true) both
 
-pub returns-in_default-push-clause-read : goal.returns-in_default-push-clause-read
-returns-in_default-push-clause-read g c =
+pub returns-in-Err-keep_marker-clause-read : goal.returns-in-Err-keep_marker-clause-read
+returns-in-Err-keep_marker-clause-read g c =
     let place : Place = get_or c.places-places.result.now c.loop-i.i (record { at = 0; len = 0 }) in
     let one = subst (λ (f : ℕ). ReadAtMost f place.len (g.D.Disk.bytes_read c.loop-i.disk) (g.D.Disk.bytes_read c.read_record.new.disk)) c.requires.named c.read_record.ensures.read in
     let both = read_then c.args.file _ place.len _ _ _ c.loop-i.invariant.read one in
@@ -47,11 +47,11 @@ loop-i-preserved g c =
           let here = there c.args.log.now.places c.places-places.result.now c.loop-i.i (record { at = 0; len = 0 }) c.places-places.ensures.all c.loop-i-test.true in
           let p = payload_at c.args.log.now payloads stands.places c.loop-i.i place here in
           let b = (c.in-Ok-read_record.ensures.ok payloads c.loop-i.i p.payload now here p.here).0 in
-          scan_more c.args.file c.args.mask.now payloads c.args.index.now c.loop-i.i place c.loop-i.index c.read_record.new.index c.loop-i.markers.items c.push.new.self.items c.in-Ok-read_record.marker (i.known payloads stands) p
-          (subst (λ (f : ℕ). HasBatch f place.at c.args.mask.now p.payload c.loop-i.index c.read_record.new.index c.in-Ok-read_record.marker) c.requires.named b) c.in-Ok-push.ensures.items;
+          scan_more c.args.file c.args.mask.now payloads c.args.index.now c.args.kind c.loop-i.i place c.loop-i.index c.read_record.new.index c.loop-i.markers.items c.keep_marker.new.markers.items c.in-Ok-read_record.marker (i.known payloads stands) p
+          (subst (λ (f : ℕ). HasPayload c.args.kind f place.at c.args.mask.now p.payload c.loop-i.index c.read_record.new.index c.in-Ok-read_record.marker) c.requires.named b) c.in_default-keep_marker.ensures.ok;
     }
 
 pub returns-clause-ok : goal.returns-clause-ok
 returns-clause-ok g c = λ payloads stands.
     let over : length c.args.log.now.places ≤ c.loop-i.i = omega (arith, c.loop-i-test.false, ap length c.places-places.ensures.all) in
-    scan_all c.args.file c.args.mask.now payloads c.args.index.now c.loop-i.i c.args.log.now c.loop-i.index c.loop-i.markers.items stands.places over (c.loop-i.invariant.known payloads stands)
+    scan_all c.args.file c.args.mask.now payloads c.args.index.now c.args.kind c.loop-i.i c.args.log.now c.loop-i.index c.loop-i.markers.items stands.places over (c.loop-i.invariant.known payloads stands)

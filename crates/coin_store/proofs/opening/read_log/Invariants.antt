@@ -4,7 +4,7 @@ use Rattle.disk_model.specs.Disk.{Quiet}
 use Rattle.batch_log.specs.OpenLog.{Stands}
 use Rattle.batch_log.specs.Reading.{ReadAtMost}
 use Rattle.batch_log.specs.declared.places.Place.{Place}
-use Rattle.coin_store.specs.Opening.{HasBatches}
+use Rattle.coin_store.specs.Opening.{HasPayloads}
 use Rattle.coin_store.proofs.opening.read_log.Given as goal
 
 abbrev pub invariant-loop-i : goal.invariant-loop-i
@@ -14,5 +14,5 @@ invariant-loop-i g l = record {
   faults : g.D.Disk.faults l.fn.disk ≤ g.D.Disk.faults l.disk;
   read : ReadAtMost l.file (sum_by (λ (p : Place). p.len) (take l.i l.places)) (g.D.Disk.bytes_read l.fn.disk) (g.D.Disk.bytes_read l.disk);
   known : (payloads : List (List ℕ)) → Stands (g.D.Disk.contents l.fn.disk) (g.D.Disk.left_since l.fn.disk (g.D.Disk.time l.fn.disk)) l.log payloads
-      → HasBatches l.file l.mask (take l.i payloads) l.fn.index l.index l.markers.items;
+      → HasPayloads l.kind l.file l.mask (take l.i payloads) l.fn.index l.index l.markers.items;
 }

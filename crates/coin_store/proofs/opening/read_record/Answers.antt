@@ -1,11 +1,11 @@
 use Rattle.std.specs.Prelude.{◌≡◌, List, ℕ, None}
 use Rattle.std.proofs.Common.{◌∙◌, sym, ap, subst}
-use Rattle.coin_store.specs.Reading.{batch_of}
+use Rattle.coin_store.specs.BatchReads.{IsNone}
 use Rattle.coin_store.specs.Rows.{IsBrokenBy}
 use Rattle.coin_store.proofs.opening.read_record.Goals as goal
 
 pub returns-in-Err-Broken-clause-ok : goal.returns-in-Err-Broken-clause-ok
 returns-in-Err-Broken-clause-ok g c = λ payloads i bytes stands there here.
     let read = (c.in_default.ensures.payload payloads i bytes stands there here).0 in
-    let broken = subst (λ fault. IsBrokenBy (batch_of c.args.mask.now c.read.new.buf ≡ None) fault) c.in-Err-Broken.field-0-is c.in-Err-Broken.ensures.broken in
-    (tt, ap (λ (b : List ℕ). batch_of c.args.mask.now b) (sym read) ∙ broken)
+    let broken = subst (λ fault. IsBrokenBy (IsNone c.args.kind c.args.mask.now c.read.new.buf) fault) c.in-Err-Broken.field-0-is c.in-Err-Broken.ensures.broken in
+    (tt, subst (IsNone c.args.kind c.args.mask.now) read broken)

@@ -1,0 +1,260 @@
+-- Opening the base file, and then the coin file.
+use Rattle.std.specs.Prelude.{◌≡◌, ◌≢◌, ◌⊎◌, ℕ, ◌+◌, ◌-◌, ◌<◌, ◌≤◌, Bool, true, false, min, max, List, [], ◌∷◌, length, take, drop, nat_le, Option, Some, None, Result, Ok, Err, refl}
+use Rattle.std.proofs.Common.{cond, eqb, sym, ap, subst, ◌∙◌, arith, inl, inr, ⊎_elim, eq-eqb}
+use Rattle.std.proofs.lemmas.Bool.{cases_Bool, cases_lt, eqb-true}
+use Rattle.std.proofs.lemmas.Bool.Decides.{nat_tests}
+use Rattle.std.proofs.lemmas.List.{take_all, take-take, drop-take}
+use Rattle.disk_model.specs.Disk.{Image, At, Torn, Leaves, Quiet, Only, OthersKept}
+use Rattle.disk_model.specs.Moments.{IsSinceEarlier, leaves_none, leaves_then, leaves_wider, elsewhere}
+use Rattle.base_types.specs.declared.fault.StoreFault.{StoreFault}
+use Rattle.base_types.specs.declared.fault.StoreFault.TheVariants.{NoMemory, DiskFailed, Damaged, Full, CacheFull}
+use Rattle.batch_log.specs.Opening.{OpenCause}
+use Rattle.batch_log.specs.Reading.{ReadAtMost}
+use Rattle.batch_log.specs.Records.{SameLog, log, payloads_from}
+use Rattle.coin_store.specs.declared.kind.Kind.TheVariants.{Base, Coins}
+use Rattle.coin_store.specs.Files.{IsOneOf, IsBaseFile, InFiles, OthersKeptBut, FilesCause, log_reads, is_base_file, base_reads, store_reads, ReadWithin}
+use Rattle.coin_store.specs.Opening.{LogDamage, BaseDamage}
+use Rattle.coin_store.specs.Store.{DamagedAs, DamageIn}
+
+-- ---- a file is this one, or another
+
+same_or_not : (f g : ℕ) → (f ≡ g) ⊎ (f ≢ g)
+same_or_not f g = elim (cases_Bool (eqb f g)) [
+  | inl t ↦ inl (eqb-true f g t)
+  | inr apart ↦ inr (λ e. let t = eq-eqb f g e in cc)
+]
+
+some_is : {A : Type 0} (x y : A) → Some x ≡ Some y → x ≡ y
+some_is x y e = cc
+
+base_or_not : (base : Option ℕ) (f : ℕ) → (base ≡ Some f) ⊎ (base ≢ Some f)
+base_or_not None f = inr (λ e. cc)
+base_or_not (Some file) f = elim (same_or_not file f) [
+  | inl e ↦ inl (ap (λ (g : ℕ). Some g) e)
+  | inr apart ↦ inr (λ e. apart (some_is file f e))
+]
+
+-- ---- steps
+
+abbrev IsStill : (List ℕ → List ℕ → Type 0) → Type 0
+IsStill Step = (bytes : List ℕ) → Step bytes bytes
+
+abbrev GoesOn : (List ℕ → List ℕ → Type 0) → Type 0
+GoesOn Step = (a b c : List ℕ) → Step a b → Step b c → Step a c
+
+pub same_still : IsStill SameLog
+same_still bytes = refl
+
+pub same_on : GoesOn SameLog
+same_on a b c s t = t ∙ s
+
+pub torn_still : IsStill (Torn 0 1)
+torn_still bytes =
+    let none : min 0 (length bytes) ≡ 0 = omega arith in
+    record {
+      before = ap (λ (n : ℕ). take n bytes) none;
+      after = ap (drop 1) (take_all (length bytes) bytes (omega arith));
+      no_shorter = omega arith;
+      no_longer = omega arith;
+    }
+
+behind_first : (n : ℕ) (xs ys : List ℕ) → drop 1 xs ≡ drop 1 ys → drop 1 (take n xs) ≡ drop 1 (take n ys)
+behind_first n xs ys e = elim (cases_lt 0 n) [
+  | inl some ↦
+      let is : n ≡ 1 + (n - 1) = omega (arith, some) in
+      ap (λ (k : ℕ). drop 1 (take k xs)) is ∙ drop-take 1 (n - 1) xs ∙ ap (λ (l : List ℕ). take (n - 1) l) e ∙ sym (drop-take 1 (n - 1) ys) ∙ ap (λ (k : ℕ). drop 1 (take k ys)) (sym is)
+  | inr none ↦
+      let is : n ≡ 0 = omega (arith, none) in
+      ap (λ (k : ℕ). drop 1 (take k xs)) is ∙ ap (λ (k : ℕ). drop 1 (take k ys)) (sym is)
+]
+
+pub torn_on : GoesOn (Torn 0 1)
+torn_on a b c s t =
+    let none : (l : List ℕ) → min 0 (length l) ≡ 0 = λ l. omega arith in
+    let longer = s.no_shorter in
+    let limit = s.no_longer in
+    record {
+      before = ap (λ (n : ℕ). take n c) (none a);
+      after = ap (drop 1) (sym (take-take (length a) (length b) c longer)) ∙ behind_first (length a) (take (length b) c) b t.after ∙ s.after;
+      no_shorter = omega (arith, longer, t.no_shorter);
+      no_longer = omega (arith, limit, t.no_longer);
+    }
+
+-- a step of one of the files
+pub in_files : (IsFile : ℕ → Type 0) (Step : List ℕ → List ℕ → Type 0) → IsStill Step → (file : ℕ) → IsFile file → (a b : Image) → At file Step a b → InFiles IsFile Step a b
+in_files IsFile Step still file this a b s = record {
+  each = λ f. elim (same_or_not f file) [
+    | inl e ↦ subst (λ (g : ℕ). Step (a g) (b g)) (sym e) s.here
+    | inr apart ↦ subst (Step (a f)) (sym (s.others f apart)) (still (a f))
+  ];
+  others = λ f none. s.others f (λ e. none (subst IsFile (sym e) this));
+}
+
+pub files_wider : (IsFile Wider : ℕ → Type 0) (Step : List ℕ → List ℕ → Type 0) → ((f : ℕ) → IsFile f → Wider f) → (a b : Image) → InFiles IsFile Step a b → InFiles Wider Step a b
+files_wider IsFile Wider Step wider a b s = record { each = s.each; others = λ f none. s.others f (λ this. none (wider f this)) }
+
+files_then : (IsFile : ℕ → Type 0) (Step : List ℕ → List ℕ → Type 0) → GoesOn Step → (a b c : Image) → InFiles IsFile Step a b → InFiles IsFile Step b c → InFiles IsFile Step a c
+files_then IsFile Step on a b c s t = record { each = λ f. on (a f) (b f) (c f) (s.each f) (t.each f); others = λ f none. t.others f none ∙ s.others f none }
+
+module _ {D : Type 0} (time : D → ℕ) (left : D → ℕ → Image → Type 0) (base : Option ℕ) (coins : ℕ) (Step : List ℕ → List ℕ → Type 0) where
+  -- the base file alone
+  pub base_leaves : (old new : D) → Leaves time left (InFiles (IsBaseFile base) Step) old new → Leaves time left (InFiles (IsOneOf base coins) Step) old new
+  base_leaves old new l = leaves_wider time left (InFiles (IsBaseFile base) Step) (InFiles (IsOneOf base coins) Step) old new (files_wider (IsBaseFile base) (IsOneOf base coins) Step (λ f this. inl this)) l
+
+  -- both files
+  pub both_leave : IsSinceEarlier time left → IsStill Step → GoesOn Step → (old mid new : D) → Leaves time left (InFiles (IsBaseFile base) Step) old mid → Leaves time left (At coins Step) mid new
+      → Leaves time left (InFiles (IsOneOf base coins) Step) old new
+  both_leave earlier still on old mid new a b =
+      let first : (x y : Image) → InFiles (IsBaseFile base) Step x y → InFiles (IsOneOf base coins) Step x y = files_wider (IsBaseFile base) (IsOneOf base coins) Step (λ f this. inl this) in
+      let second : (x y : Image) → At coins Step x y → InFiles (IsOneOf base coins) Step x y = in_files (IsOneOf base coins) Step still coins (inr refl) in
+      leaves_then time left earlier (InFiles (IsBaseFile base) Step) (At coins Step) (InFiles (IsOneOf base coins) Step) old mid new first second
+      (λ x y z s t. files_then (IsOneOf base coins) Step on x y z (first x y s) (second y z t)) a b
+
+-- the base file's log, where there is one
+pub file_leaves : {D : Type 0} (time : D → ℕ) (left : D → ℕ → Image → Type 0) (base : Option ℕ) (Step : List ℕ → List ℕ → Type 0) (file : ℕ) → base ≡ Some file → IsStill Step → (old new : D) → Leaves time left (At file Step) old new
+    → Leaves time left (InFiles (IsBaseFile base) Step) old new
+file_leaves time left base Step file this still old new l = leaves_wider time left (At file Step) (InFiles (IsBaseFile base) Step) old new (in_files (IsBaseFile base) Step still file this) l
+
+-- ---- what is told
+
+pub kept_but : (IsFile : ℕ → Type 0) (file : ℕ) → IsFile file → (old new : Option Image) → OthersKept file old new → OthersKeptBut IsFile old new
+kept_but IsFile file this None None kept = tt
+kept_but IsFile file this (Some m) (Some n) kept = λ f none. kept f (λ e. none (subst IsFile (sym e) this))
+kept_but IsFile file this None (Some n) kept = absurd kept
+kept_but IsFile file this (Some m) None kept = absurd kept
+
+pub kept_wider : (IsFile Wider : ℕ → Type 0) → ((f : ℕ) → IsFile f → Wider f) → (old new : Option Image) → OthersKeptBut IsFile old new → OthersKeptBut Wider old new
+kept_wider IsFile Wider wider None None kept = tt
+kept_wider IsFile Wider wider (Some m) (Some n) kept = λ f none. kept f (λ this. none (wider f this))
+kept_wider IsFile Wider wider None (Some n) kept = absurd kept
+kept_wider IsFile Wider wider (Some m) None kept = absurd kept
+
+pub kept_same : (IsFile : ℕ → Type 0) (told : Option Image) → OthersKeptBut IsFile told told
+kept_same IsFile None = tt
+kept_same IsFile (Some m) = λ f none. refl
+
+pub kept_then : (IsFile : ℕ → Type 0) (old mid new : Option Image) → OthersKeptBut IsFile old mid → OthersKeptBut IsFile mid new → OthersKeptBut IsFile old new
+kept_then IsFile None None None a b = tt
+kept_then IsFile (Some l) (Some m) (Some n) a b = λ f none. b f none ∙ a f none
+kept_then IsFile None None (Some n) a b = absurd b
+kept_then IsFile (Some l) (Some m) None a b = absurd b
+kept_then IsFile None (Some m) new a b = absurd a
+kept_then IsFile (Some l) None new a b = absurd a
+
+pub told_but : (IsFile : ℕ → Type 0) (old mid : Option Image) (m : Image) → OthersKeptBut IsFile old mid → old ≡ Some m → (n : Image) × (mid ≡ Some n) × ((f : ℕ) → (IsFile f → ⊥) → n f ≡ m f)
+told_but IsFile None None m kept is = absurd cc
+told_but IsFile None (Some n) m kept is = absurd kept
+told_but IsFile (Some l) None m kept is = absurd kept
+told_but IsFile (Some l) (Some n) m kept is =
+    let same : l ≡ m = cc in
+    (n, refl, λ f none. kept f none ∙ ap (λ (i : Image). i f) same)
+
+-- ---- what a file has once another was opened
+
+-- the same bytes, or at most one before and after
+abbrev pub Alike : List ℕ → List ℕ → Type 0
+Alike before after = (after ≡ before) ⊎ ((length before ≤ 1) × (length after ≤ 1))
+
+le_true : (a b : ℕ) → a ≤ b → nat_le a b ≡ true
+le_true a b h = grind (arith, nat_tests)
+
+pub tiny_log : (bytes : List ℕ) → length bytes ≤ 1 → log bytes ≡ Ok []
+tiny_log bytes h = ap (λ b. cond b (Ok []) (payloads_from 0 0 bytes)) (le_true (length bytes) 1 h)
+
+pub tiny_reads : (bytes : List ℕ) → length bytes ≤ 1 → log_reads bytes ≡ 5
+tiny_reads bytes h = ap (λ b. cond b 5 (length bytes + 5)) (le_true (length bytes) 1 h)
+
+pub alike_log : (a b : List ℕ) → Alike a b → log b ≡ log a
+alike_log a b same = ⊎_elim (λ e. ap log e) (λ few. tiny_log b few.1 ∙ sym (tiny_log a few.0)) same
+
+pub alike_reads : (a b : List ℕ) → Alike a b → log_reads b ≡ log_reads a
+alike_reads a b same = ⊎_elim (λ e. ap log_reads e) (λ few. tiny_reads b few.1 ∙ sym (tiny_reads a few.0)) same
+
+pub alike_tiny : (a b : List ℕ) → Alike a b → length a ≤ 1 → length b ≤ 1
+alike_tiny a b same few = ⊎_elim (λ e. subst (λ (l : List ℕ). length l ≤ 1) (sym e) few) (λ both. both.1) same
+
+pub alike : (base : Option ℕ) (old mid : Option Image) (m n : Image) → old ≡ Some m → mid ≡ Some n → ((f : ℕ) → base ≢ Some f → n f ≡ m f) → (((f : ℕ) → base ≡ Some f → 1 < length (m f)) → mid ≡ old)
+    → ((f : ℕ) → base ≡ Some f → length (m f) ≤ 1 → n f ≡ 0 ∷ []) → (f : ℕ) → Alike (m f) (n f)
+alike base old mid m n was is others long tiny f = elim (base_or_not base f) [
+  | inr apart ↦ inl (others f apart)
+  | inl this ↦ elim (cases_lt 1 (length (m f))) [
+    | inr few ↦ inr (few, omega (arith, ap length (tiny f this few)))
+    | inl more ↦
+        let all : (g : ℕ) → base ≡ Some g → 1 < length (m g) = λ g that. subst (λ (h : ℕ). 1 < length (m h)) (some_is f g (sym this ∙ that)) more in
+        let same : n ≡ m = some_is n m (sym is ∙ long all ∙ was) in
+        inl (ap (λ (i : Image). i f) same)
+  ]
+]
+
+-- ---- faults
+
+pub file_cause : (IsFile : ℕ → Type 0) (file : ℕ) → IsFile file → (before now : ℕ) (fault : StoreFault) → OpenCause file before now fault → FilesCause IsFile before now fault
+file_cause IsFile file this before now NoMemory c = tt
+file_cause IsFile file this before now DiskFailed c = c
+file_cause IsFile file this before now (Damaged f at) c = subst IsFile (sym c) this
+file_cause IsFile file this before now (Full f) c = c
+file_cause IsFile file this before now CacheFull c = c
+
+pub cause_wider : (IsFile Wider : ℕ → Type 0) → ((f : ℕ) → IsFile f → Wider f) → (before now : ℕ) (fault : StoreFault) → FilesCause IsFile before now fault → FilesCause Wider before now fault
+cause_wider IsFile Wider wider before now NoMemory c = tt
+cause_wider IsFile Wider wider before now DiskFailed c = c
+cause_wider IsFile Wider wider before now (Damaged f at) c = wider f c
+cause_wider IsFile Wider wider before now (Full f) c = c
+cause_wider IsFile Wider wider before now CacheFull c = c
+
+-- ---- what is read
+
+some_reads : (bytes : List ℕ) → 0 < log_reads bytes
+some_reads bytes = some (nat_le (length bytes) 1) where
+  some : (b : Bool) → 0 < cond b 5 (length bytes + 5)
+  some true = omega arith
+  some false = omega arith
+
+pub reads_none : (told : Option (ℕ → ℕ)) → ReadWithin (λ f. 0) told told
+reads_none None = tt
+reads_none (Some r) = λ f. (omega arith, λ e. refl)
+
+-- of one file
+pub reads_one : (file : ℕ) (m : Image) (old new : Option (ℕ → ℕ)) → ReadAtMost file (log_reads (m file)) old new → ReadWithin (base_reads (Some file) m) old new
+reads_one file m None None r = tt
+reads_one file m None (Some now) r = absurd r
+reads_one file m (Some before) None r = absurd r
+reads_one file m (Some before) (Some now) r = λ f. elim (cases_Bool (eqb f file)) [
+  | inl t ↦
+      let e : f ≡ file = eqb-true f file t in
+      let most : now f ≤ before f + log_reads (m f) = subst (λ (g : ℕ). now g ≤ before g + log_reads (m g)) (sym e) r.0 in
+      let some = some_reads (m f) in
+      rw t (most, λ none. absurd (omega (arith, none, some)))
+  | inr apart ↦
+      let same = r.1 f (λ e. let t = eq-eqb f file e in cc) in
+      rw apart (omega (arith, same), λ none. same)
+]
+
+-- of the base file alone
+pub reads_base : (base : Option ℕ) (coins : ℕ) (m : Image) (old new : Option (ℕ → ℕ)) → ReadWithin (base_reads base m) old new → ReadWithin (store_reads base coins m) old new
+reads_base base coins m None None r = tt
+reads_base base coins m None (Some now) r = absurd r
+reads_base base coins m (Some before) None r = absurd r
+reads_base base coins m (Some before) (Some now) r = λ f.
+    let most = (r f).0 in
+    (omega (arith, most), λ none. (r f).1 (omega (arith, none)))
+
+-- and then of the coin file
+pub reads_both : (base : Option ℕ) (coins : ℕ) (m : Image) (old mid new : Option (ℕ → ℕ)) → ReadWithin (base_reads base m) old mid → ReadAtMost coins (log_reads (m coins)) mid new → ReadWithin (store_reads base coins m) old new
+reads_both base coins m None None None a b = tt
+reads_both base coins m None None (Some now) a b = absurd b
+reads_both base coins m (Some before) (Some between) None a b = absurd b
+reads_both base coins m None (Some between) new a b = absurd a
+reads_both base coins m (Some before) None new a b = absurd a
+reads_both base coins m (Some before) (Some between) (Some now) a b = λ f. elim (cases_Bool (eqb f coins)) [
+  | inl t ↦
+      let e : f ≡ coins = eqb-true f coins t in
+      let most : now f ≤ between f + log_reads (m f) = subst (λ (g : ℕ). now g ≤ between g + log_reads (m g)) (sym e) b.0 in
+      let some = some_reads (m f) in
+      let first = (a f).0 in
+      rw t (omega (arith, first, most), λ none. absurd (omega (arith, none, some)))
+  | inr apart ↦
+      let same = b.1 f (λ e. let t = eq-eqb f coins e in cc) in
+      let first = (a f).0 in
+      rw apart (omega (arith, first, same), λ none. same ∙ (a f).1 (omega (arith, none)))
+]

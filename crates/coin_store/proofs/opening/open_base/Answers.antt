@@ -1,0 +1,20 @@
+use Rattle.std.specs.Prelude.{◌≡◌, ℕ, List, Some, Option}
+use Rattle.std.proofs.Common.{sym, subst}
+use Rattle.disk_model.specs.Disk.{Torn}
+use Rattle.batch_log.specs.Records.{SameLog}
+use Rattle.coin_store.specs.Files.{base_reads, ReadWithin}
+use Rattle.coin_store.proofs.TwoFiles.{same_still, torn_still, file_leaves, reads_one}
+use Rattle.coin_store.proofs.opening.open_base.Goals as goal
+
+pub returns-clause-any_moment : goal.returns-clause-any_moment
+returns-clause-any_moment g c = λ m told.
+    file_leaves g.D.Disk.time g.D.Disk.left_since c.args.file SameLog c.in-Some.file c.in-Some.is same_still c.args.disk.now c.open_log.new.disk (c.open_log.ensures.any_moment m told)
+
+pub returns-clause-part : goal.returns-clause-part
+returns-clause-part g c =
+    file_leaves g.D.Disk.time g.D.Disk.left_since c.args.file (Torn 0 1) c.in-Some.file c.in-Some.is torn_still c.args.disk.now c.open_log.new.disk c.open_log.ensures.part
+
+pub returns-clause-read : goal.returns-clause-read
+returns-clause-read g c = λ m told.
+    subst (λ (f : Option ℕ). ReadWithin (base_reads f m) (g.D.Disk.bytes_read c.args.disk.now) (g.D.Disk.bytes_read c.open_log.new.disk)) (sym c.in-Some.is)
+    (reads_one c.in-Some.file m (g.D.Disk.bytes_read c.args.disk.now) (g.D.Disk.bytes_read c.open_log.new.disk) (c.open_log.ensures.read m told))

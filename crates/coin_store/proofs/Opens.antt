@@ -32,7 +32,7 @@ use Rattle.coin_store.specs.Batches.{Row, Batch, value_text, row_text, rows_text
 use Rattle.coin_store.specs.Files.{log_reads}
 use Rattle.coin_store.specs.Opening.{HasBatches, HasBase, IsDamagedAt, LogDamage, BaseDamage}
 use Rattle.coin_store.specs.Places.{CoinPlaces, put, place_of, places_after_rows, places_after_batch, places_after, live}
-use Rattle.coin_store.specs.Store.{Holds, DamagedAs, DamageIn, marks, last_marker, marker_after}
+use Rattle.coin_store.specs.Store.{Holds, DamagedAs, DamageIn, marks, texts, last_marker, marker_after}
 use Rattle.coin_store.proofs.TwoFiles.{tiny_log, tiny_reads}
 
 -- ---- calls that change nothing come after
@@ -130,24 +130,27 @@ no_base mask m contents left old none = ([], record { fits = tt; is = refl }, no
 -- ---- the store
 
 pub opens : (contents : Option Image) (left : Image → Type 0) (store : CoinStore) (image : Image) (base : List (List Row)) (payloads : List (List ℕ)) (first : CoinPlaces) → IsBase store.mask store.base image base
-    → first ≡ base_places store.base store.mask base → Stands contents left store.log payloads → HasBatches store.log.file store.mask payloads first store.index store.markers.items
-    → ((f : ℕ) → store.base ≡ Some f → HoldsLog contents left f (base_texts store.mask base)) → store.base ≢ Some store.log.file
-    → (h : HasBatches store.log.file store.mask payloads first store.index store.markers.items) → Holds contents left store base h.batches
-opens contents left store image base payloads first b is s given stands apart h = record {
-  knows = record {
-    base_fits = b.fits;
-    base_none = base_none store.mask store.base image base b;
-    fits = h.fits;
-    markers = h.marked;
-    places = λ q.
-        ap (λ (p : CoinPlaces). live (get p q)) h.places
-        ∙ ap (λ (p : CoinPlaces). live (get (places_after store.log.file store.mask 0 p h.batches) q)) is
-        ∙ all_live store.log.file store.base store.mask base h.batches b.fits h.fits q;
-  };
-  stands = subst (Stands contents left store.log) h.is s;
-  base_stands = stands;
-  apart = apart;
-}
+    → first ≡ base_places store.base store.mask base → Stands contents left store.log payloads → (store.base ≢ Some store.log.file → (f : ℕ) → store.base ≡ Some f → HoldsLog contents left f (base_texts store.mask base))
+    → HasBatches store.log.file store.mask payloads first store.index store.markers.items → (batches : List Batch) × (payloads ≡ texts store.mask batches) × (store.base ≢ Some store.log.file → Holds contents left store base batches)
+opens contents left store image base payloads first b is s stands h = (
+  h.batches,
+  h.is,
+  λ apart. record {
+    knows = record {
+      base_fits = b.fits;
+      base_none = base_none store.mask store.base image base b;
+      fits = h.fits;
+      markers = h.marked;
+      places = λ q.
+          ap (λ (p : CoinPlaces). live (get p q)) h.places
+          ∙ ap (λ (p : CoinPlaces). live (get (places_after store.log.file store.mask 0 p h.batches) q)) is
+          ∙ all_live store.log.file store.base store.mask base h.batches b.fits h.fits q;
+    };
+    stands = subst (Stands contents left store.log) h.is s;
+    base_stands = stands apart;
+    apart = apart;
+  },
+)
 
 -- ---- damage
 

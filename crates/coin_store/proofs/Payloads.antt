@@ -1,7 +1,7 @@
 -- One staged row more, and one payload more.
-use Rattle.std.specs.Prelude.{◌≡◌, ℕ, ◌+◌, ◌-◌, ◌≤◌, All, Contains, List, [], ◌∷◌, ◌++◌, length, take, drop, get_or, Option, vec_len, vec_capacity, refl}
+use Rattle.std.specs.Prelude.{◌≡◌, ℕ, ◌+◌, ◌-◌, ◌≤◌, All, Contains, List, [], ◌∷◌, ◌++◌, length, take, drop, get_or, Option, Some, vec_len, vec_capacity, refl}
 use Rattle.std.specs.Global.{Vec}
-use Rattle.std.specs.FinMap.{get, empty}
+use Rattle.std.specs.FinMap.{get}
 use Rattle.std.specs.List.{AllByRecursion}
 use Rattle.std.proofs.Common.{sym, ap, subst, ◌∙◌, arith}
 use Rattle.std.proofs.lemmas.List.{length-append, length-drop, drop-append-le, take_all, drop_all}
@@ -9,10 +9,11 @@ use Rattle.std.proofs.lemmas.List.Elements.{All-contains}
 use Rattle.disk_model.specs.Disk.{Image}
 use Rattle.base_types.specs.declared.hash.OutPoint.{OutPoint}
 use Rattle.batch_log.specs.OpenLog.{OpenLog, Stands, HasRoom}
-use Rattle.batch_log.specs.Records.{body, records}
+use Rattle.batch_log.specs.Records.{body, records, HoldsLog}
 use Rattle.coin_store.specs.declared.marker.Marker.{Marker}
 use Rattle.coin_store.specs.declared.store.CoinStore.{CoinStore}
 use Rattle.coin_store.specs.declared.store.Marked.{Marked}
+use Rattle.coin_store.specs.Base.{base_texts, base_places}
 use Rattle.coin_store.specs.Batches.{Row, Batch, row_text, rows_text, marker_text, batch_text, RowFits, MarkerFits, BatchFits}
 use Rattle.coin_store.specs.Places.{CoinPlaces, places_after_rows, places_after_batch, places_after}
 use Rattle.coin_store.specs.Staged.{HasEntry, KeepsEntries, Agrees, AreRows}
@@ -91,13 +92,16 @@ pub texts_push : (mask : List ℕ) (batches : List Batch) (batch : Batch) → te
 texts_push mask [] batch = refl
 texts_push mask (first ∷ batches) batch = ap (λ (l : List (List ℕ)). batch_text mask first ∷ l) (texts_push mask batches batch)
 
-pub knows_push : (old new : CoinStore) (batches : List Batch) (batch : Batch) → Knows old batches → BatchFits batch → old.log.end ≡ length (records (texts old.mask batches))
-    → new.mask ≡ old.mask → new.log.file ≡ old.log.file → new.markers.items ≡ old.markers.items ++ record { marker = batch.marker; at = old.log.end } ∷ []
-    → Agrees new.index (places_after_rows old.log.file old.mask old.log.end (length (marker_text batch.marker)) (places_after old.log.file old.mask 0 empty batches) batch.rows)
-    → Knows new (batches ++ batch ∷ [])
-knows_push old new batches batch k fits end mask file markers agree =
+pub knows_push : (old new : CoinStore) (base : List (List Row)) (batches : List Batch) (batch : Batch) → Knows old base batches → BatchFits batch → old.log.end ≡ length (records (texts old.mask batches))
+    → new.base ≡ old.base → new.mask ≡ old.mask → new.log.file ≡ old.log.file → new.markers.items ≡ old.markers.items ++ record { marker = batch.marker; at = old.log.end } ∷ []
+    → Agrees new.index (places_after_rows old.log.file old.mask old.log.end (length (marker_text batch.marker)) (places_after old.log.file old.mask 0 (base_places old.base old.mask base) batches) batch.rows)
+    → Knows new base (batches ++ batch ∷ [])
+knows_push old new base batches batch k fits end first mask file markers agree =
     let at : old.log.end ≡ 0 + length (records (texts old.mask batches)) = omega (arith, end) in
+    let places = base_places old.base old.mask base in
     record {
+      base_fits = k.base_fits;
+      base_none = λ none. k.base_none (sym first ∙ none);
       fits = all_pushed BatchFits batches batch k.fits fits;
       markers = markers
           ∙ ap (λ (l : List Marked). l ++ record { marker = batch.marker; at = old.log.end } ∷ []) k.markers
@@ -105,29 +109,34 @@ knows_push old new batches batch k fits end mask file markers agree =
           ∙ sym (marks_push old.mask 0 batches batch)
           ∙ ap (λ (m : List ℕ). marks m 0 (batches ++ batch ∷ [])) (sym mask);
       places = λ q. agree q
-          ∙ ap (λ (n : ℕ). get (places_after_batch old.log.file old.mask n (places_after old.log.file old.mask 0 empty batches) batch) q) at
-          ∙ ap (λ (p : CoinPlaces). get p q) (sym (places_after_push old.log.file old.mask 0 empty batches batch))
-          ∙ ap (λ (f : ℕ). get (places_after f old.mask 0 empty (batches ++ batch ∷ [])) q) (sym file)
-          ∙ ap (λ (m : List ℕ). get (places_after new.log.file m 0 empty (batches ++ batch ∷ [])) q) (sym mask);
+          ∙ ap (λ (n : ℕ). get (places_after_batch old.log.file old.mask n (places_after old.log.file old.mask 0 places batches) batch) q) at
+          ∙ ap (λ (p : CoinPlaces). get p q) (sym (places_after_push old.log.file old.mask 0 places batches batch))
+          ∙ ap (λ (f : ℕ). get (places_after f old.mask 0 places (batches ++ batch ∷ [])) q) (sym file)
+          ∙ ap (λ (b : Option ℕ). get (places_after new.log.file old.mask 0 (base_places b old.mask base) (batches ++ batch ∷ [])) q) (sym first)
+          ∙ ap (λ (m : List ℕ). get (places_after new.log.file m 0 (base_places new.base m base) (batches ++ batch ∷ [])) q) (sym mask);
     }
 
 -- the payload that is written
 pub payload_is : (shown items text : List ℕ) (from : ℕ) → shown ≡ items → drop from items ≡ text → take (length shown - from) (drop from shown) ≡ text
 payload_is shown items text from is there = take_all (length shown - from) (drop from shown) (omega (arith, length-drop from shown)) ∙ ap (drop from) is ∙ there
 
-module _ (contents : Option Image) (left : Image → Type 0) (old new : CoinStore) (log : OpenLog) (batches : List Batch) (marker : Marker) (rows : List Row) where
-  pub applied : (payload : List ℕ) → Holds contents left old batches → (now : Option Image) (left_now : Image → Type 0)
-      → Stands now left_now log (texts old.mask batches ++ payload ∷ []) → payload ≡ batch_text old.mask (record { marker = marker; rows = rows }) → MarkerFits marker → AllByRecursion RowFits rows
-      → new.log ≡ log → log.file ≡ old.log.file → new.mask ≡ old.mask → new.markers.items ≡ old.markers.items ++ record { marker = marker; at = old.log.end } ∷ []
-      → Agrees new.index (places_after_rows old.log.file old.mask old.log.end (length (marker_text marker)) (places_after old.log.file old.mask 0 empty batches) rows)
-      → Holds now left_now new (batches ++ record { marker = marker; rows = rows } ∷ [])
-  applied payload h now left_now s is marked fit log_is file mask markers agree =
+module _ (contents : Option Image) (left : Image → Type 0) (old new : CoinStore) (log : OpenLog) (base : List (List Row)) (batches : List Batch) (marker : Marker) (rows : List Row) where
+  pub applied : (payload : List ℕ) → Holds contents left old base batches → (now : Option Image) (left_now : Image → Type 0)
+      → Stands now left_now log (texts old.mask batches ++ payload ∷ []) → ((f : ℕ) → old.base ≡ Some f → HoldsLog now left_now f (base_texts old.mask base))
+      → payload ≡ batch_text old.mask (record { marker = marker; rows = rows }) → MarkerFits marker → AllByRecursion RowFits rows
+      → new.log ≡ log → log.file ≡ old.log.file → new.base ≡ old.base → new.mask ≡ old.mask → new.markers.items ≡ old.markers.items ++ record { marker = marker; at = old.log.end } ∷ []
+      → Agrees new.index (places_after_rows old.log.file old.mask old.log.end (length (marker_text marker)) (places_after old.log.file old.mask 0 (base_places old.base old.mask base) batches) rows)
+      → Holds now left_now new base (batches ++ record { marker = marker; rows = rows } ∷ [])
+  applied payload h now left_now s stands is marked fit log_is file first mask markers agree =
       let batch : Batch = record { marker = marker; rows = rows } in
       let payloads : texts old.mask batches ++ payload ∷ [] ≡ texts new.mask (batches ++ batch ∷ []) =
       ap (λ (p : List ℕ). texts old.mask batches ++ p ∷ []) is ∙ sym (texts_push old.mask batches batch) ∙ ap (λ (m : List ℕ). texts m (batches ++ batch ∷ [])) (sym mask) in
+      let new_file : new.log.file ≡ old.log.file = ap (λ (l : OpenLog). l.file) log_is ∙ file in
       record {
-        knows = knows_push old new batches batch h.knows (record { marker = marked; rows = fit }) h.stands.end mask (ap (λ (l : OpenLog). l.file) log_is ∙ file) markers agree;
+        knows = knows_push old new base batches batch h.knows (record { marker = marked; rows = fit }) h.stands.end first mask new_file markers agree;
         stands = subst (λ (l : OpenLog). Stands now left_now l (texts new.mask (batches ++ batch ∷ []))) (sym log_is) (subst (Stands now left_now log) payloads s);
+        base_stands = λ f this. subst (λ (m : List ℕ). HoldsLog now left_now f (base_texts m base)) (sym mask) (stands f (sym first ∙ this));
+        apart = λ this. h.apart (sym first ∙ this ∙ ap (λ (f : ℕ). Some f) new_file);
       }
 
 pub restaged : (old new : CoinStore) (keys : List OutPoint) (payload payloads before total : ℕ) (rows : List Row) → IsStaged old keys payload (1 + payloads) before rows → KeepsEntries old.index new.index

@@ -110,6 +110,16 @@ module _ {D : Type 0} (time : D → ℕ) (left : D → ℕ → Image → Type 0)
       leaves_then time left earlier (InFiles (IsBaseFile base) Step) (At coins Step) (InFiles (IsOneOf base coins) Step) old mid new first second
       (λ x y z s t. files_then (IsOneOf base coins) Step on x y z (first x y s) (second y z t)) a b
 
+  -- a file of at most one byte is one closed gate after both
+  pub both_tiny : IsSinceEarlier time left → (mid new : D) (m : Image) → Leaves time left (At coins Step) mid new → ((f : ℕ) → base ≡ Some f → length (m f) ≤ 1 → Only f (0 ∷ []) (left mid (time mid)))
+      → (length (m coins) ≤ 1 → Only coins (0 ∷ []) (left new (time new))) → (f : ℕ) → IsOneOf base coins f → length (m f) ≤ 1 → Only f (0 ∷ []) (left new (time new))
+  both_tiny earlier mid new m l first second f this few = elim (same_or_not f coins) [
+    | inl e ↦ subst (λ (g : ℕ). Only g (0 ∷ []) (left new (time new))) (sym e) (second (subst (λ (g : ℕ). length (m g) ≤ 1) e few))
+    | inr apart ↦ λ c now.
+        let e = elsewhere time left earlier coins Step mid new l f apart c now in
+        e.2 ∙ first f (⊎_elim (λ b. b) (λ e. absurd (apart e)) this) few e.0 e.1
+  ]
+
 -- the base file's log, where there is one
 pub file_leaves : {D : Type 0} (time : D → ℕ) (left : D → ℕ → Image → Type 0) (base : Option ℕ) (Step : List ℕ → List ℕ → Type 0) (file : ℕ) → base ≡ Some file → IsStill Step → (old new : D) → Leaves time left (At file Step) old new
     → Leaves time left (InFiles (IsBaseFile base) Step) old new
@@ -185,6 +195,23 @@ alike base old mid m n was is others long tiny f = elim (base_or_not base f) [
         inl (ap (λ (i : Image). i f) same)
   ]
 ]
+
+-- the contents once the base file was opened
+pub record Between (mid : Option Image) (m : Image) : Type 0 where
+  pub image : Image
+  pub told : mid ≡ Some image
+  pub same : (f : ℕ) → Alike (m f) (image f)
+
+pub between : {D : Type 0} (time : D → ℕ) (left : D → ℕ → Image → Type 0) (contents : D → Option Image) → ((d : D) (m : Image) → contents d ≡ Some m → left d (time d) m) → (base : Option ℕ) (old mid : D) (m : Image) → contents old ≡ Some m
+    → OthersKeptBut (IsBaseFile base) (contents old) (contents mid) → (((f : ℕ) → base ≡ Some f → 1 < length (m f)) → contents mid ≡ contents old)
+    → ((f : ℕ) → base ≡ Some f → length (m f) ≤ 1 → Only f (0 ∷ []) (left mid (time mid))) → Between (contents mid) m
+between time left contents reads_as base old mid m told kept long tiny =
+    let t = told_but (IsBaseFile base) (contents old) (contents mid) m kept told in
+    record {
+      image = t.0;
+      told = t.1;
+      same = alike base (contents old) (contents mid) m t.0 told t.1 t.2 long (λ f this few. tiny f this few t.0 (reads_as mid t.0 t.1));
+    }
 
 -- ---- faults
 

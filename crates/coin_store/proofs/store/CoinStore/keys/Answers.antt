@@ -16,9 +16,9 @@ returns-clause-found c = λ q.
     sym (list_any-IsPermutation (eq_by_cmp outpoint_cmp q) c.in-Ok.keys.items c.in-Ok-in_key_order.sorted moved) ∙ c.in-Ok.ensures.found q
 
 pub returns-clause-held : goal.returns-clause-held
-returns-clause-held c = λ batches knows q.
+returns-clause-held c = λ base batches knows q.
     let moved = subst (λ (l : List OutPoint). IsPermutation l c.in-Ok-in_key_order.sorted) c.deref.ensures.value c.in-Ok-in_key_order.ensures.same in
-    sym (list_any-IsPermutation (eq_by_cmp outpoint_cmp q) c.in-Ok.keys.items c.in-Ok-in_key_order.sorted moved) ∙ c.in-Ok.ensures.found q ∙ coins_known c.args.self.now batches knows q
+    sym (list_any-IsPermutation (eq_by_cmp outpoint_cmp q) c.in-Ok.keys.items c.in-Ok-in_key_order.sorted moved) ∙ c.in-Ok.ensures.found q ∙ coins_known c.args.self.now base batches knows q
 
 pub returns-clause-once : goal.returns-clause-once
 returns-clause-once c =

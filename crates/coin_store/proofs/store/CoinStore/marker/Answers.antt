@@ -9,13 +9,13 @@ pub returns-in-Some-clause-last : goal.returns-in-Some-clause-last
 returns-in-Some-clause-last c = last_at c.args.self.now.start c.args.self.now.markers.items c.deref.result.now c.in-Some.marked.now c.deref.ensures.value c.in-Some.ensures.value
 
 pub returns-in-Some-clause-held : goal.returns-in-Some-clause-held
-returns-in-Some-clause-held c = λ batches knows.
+returns-in-Some-clause-held c = λ base batches knows.
     last_at c.args.self.now.start c.args.self.now.markers.items c.deref.result.now c.in-Some.marked.now c.deref.ensures.value c.in-Some.ensures.value
     ∙ ap (λ (l : List Marked). last_marker c.args.self.now.start l) knows.markers
     ∙ last_is c.args.self.now.mask 0 c.args.self.now.start batches
 
 pub returns-in-None-clause-held : goal.returns-in-None-clause-held
-returns-in-None-clause-held c = λ batches knows.
+returns-in-None-clause-held c = λ base batches knows.
     last_none c.args.self.now.start c.args.self.now.markers.items c.deref.result.now c.deref.ensures.value c.in-None.ensures.value
     ∙ ap (λ (l : List Marked). last_marker c.args.self.now.start l) knows.markers
     ∙ last_is c.args.self.now.mask 0 c.args.self.now.start batches

@@ -58,9 +58,9 @@ places_push file mask gate offset places (first ∷ rows) row =
     places_push file mask gate (offset + length (row_text mask first)) after rows row
     ∙ ap (λ (n : ℕ). put (places_after_rows file mask gate (offset + length (row_text mask first)) after rows) row.key (place_of file gate n row)) reach
 
-pub all_push : (rows : List Row) (row : Row) → AllByRecursion RowFits rows → RowFits row → AllByRecursion RowFits (rows ++ row ∷ [])
-all_push [] row fits fit = (fit, tt)
-all_push (first ∷ rows) row fits fit = (fits.0, all_push rows row fits.1 fit)
+pub all_push : {A : Type 0} (P : A → Type 0) (xs : List A) (x : A) → AllByRecursion P xs → P x → AllByRecursion P (xs ++ x ∷ [])
+all_push P [] x all p = (p, tt)
+all_push P (y ∷ xs) x all p = (all.0, all_push P xs x all.1 p)
 
 append_nil : (xs : List ℕ) → xs ++ [] ≡ xs
 append_nil [] = refl
@@ -103,7 +103,7 @@ module _ (file gate : ℕ) (mask payload : List ℕ) (start : ℕ) (old : CoinPl
       let further : behind ≡ drop (at + (row.from + row.len)) payload = drop-drop (row.from + row.len) at payload in
       record {
         rows = r.rows ++ whole ∷ [];
-        fit = all_push r.rows whole r.fit this.fits;
+        fit = all_push RowFits r.rows whole r.fit this.fits;
         parts = r.parts
             ∙ ap (λ (b : List ℕ). front ++ b) this.parts
             ∙ sym (append_assoc front (row_text mask whole) behind)

@@ -6,7 +6,7 @@ use Rattle.std.specs.Ordering.{eq_by_cmp}
 use Rattle.base_types.specs.Keys.{outpoint_cmp, outpoint_cmp_total}
 use Rattle.base_types.specs.declared.coin.Coin.{Coin}
 use Rattle.coin_codec.specs.CoinText.{coin_text}
-use Rattle.coin_store.specs.RowLaws.{length-coin_text}
+use Rattle.coin_store.specs.RowLaws.{some_is, length-coin_text}
 use Rattle.coin_store.specs.declared.places.CoinPlace.{CoinPlace}
 use Rattle.std.proofs.Common.{cond, sym, ap, subst, ◌∙◌, arith, inl, inr, ⊎_elim}
 use Rattle.std.proofs.lemmas.Bool.Decides.{nat_tests}
@@ -33,6 +33,7 @@ use Rattle.coin_store.specs.Files.{log_reads}
 use Rattle.coin_store.specs.Opening.{HasBatches, HasBase, IsDamagedAt, LogDamage, BaseDamage}
 use Rattle.coin_store.specs.Places.{CoinPlaces, put, place_of, places_after_rows, places_after_batch, places_after, live}
 use Rattle.coin_store.specs.Store.{Holds, DamagedAs, DamageIn, marks, texts, last_marker, marker_after}
+use Rattle.coin_store.proofs.Scanning.{as_many}
 use Rattle.coin_store.proofs.TwoFiles.{tiny_log, tiny_reads}
 
 -- ---- calls that change nothing come after
@@ -95,9 +96,6 @@ first_live (Some file) mask base fits = base_live file mask 0 empty base fits no
 
 all_live : (file : ℕ) (first : Option ℕ) (mask : List ℕ) (base : List (List Row)) (batches : List Batch) → AllByRecursion BaseFits base → AllByRecursion BatchFits batches → AreLive (places_after file mask 0 (base_places first mask base) batches)
 all_live file first mask base batches base_fits fits = batches_live file mask 0 (base_places first mask base) batches fits (first_live first mask base base_fits)
-
-some_is : {A : Type 0} (x y : A) → Some x ≡ Some y → x ≡ y
-some_is x y e = cc
 
 -- ---- the base
 
@@ -226,11 +224,8 @@ reads_within bytes payloads places is found long =
 
 pub heads_within : (bytes : List ℕ) (payloads : List (List ℕ)) → StartsWith payloads bytes → 5 * length payloads + 5 ≤ log_reads bytes
 heads_within bytes payloads s =
-    let size : 5 * length payloads ≤ length bytes = omega (arith, ap length s.is, length-append (records payloads) s.rest, lengths_of 0 payloads, length-places_of 0 payloads) in
-    bounded bytes _ (λ few. omega (arith, size, few)) (λ more. omega (arith, size)) where
-  length-places_of : (at : ℕ) (ps : List (List ℕ)) → length (places_of at ps) ≡ length ps
-  length-places_of at [] = refl
-  length-places_of at (p ∷ ps) = ap suc (length-places_of (at + (5 + length p)) ps)
+    let size : 5 * length payloads ≤ length bytes = omega (arith, ap length s.is, length-append (records payloads) s.rest, lengths_of 0 payloads, as_many 0 payloads) in
+    bounded bytes _ (λ few. omega (arith, size, few)) (λ more. omega (arith, size))
 
 -- ---- markers
 

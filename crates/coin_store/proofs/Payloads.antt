@@ -8,7 +8,7 @@ use Rattle.std.proofs.lemmas.List.{length-append, length-drop, drop-append-le, t
 use Rattle.std.proofs.lemmas.List.Elements.{All-contains}
 use Rattle.disk_model.specs.Disk.{Image}
 use Rattle.base_types.specs.declared.hash.OutPoint.{OutPoint}
-use Rattle.batch_log.specs.OpenLog.{OpenLog, Stands, HasRoom}
+use Rattle.batch_log.specs.OpenLog.{OpenLog, Stands, Unchanged, HasRoom}
 use Rattle.batch_log.specs.Records.{body, records, HoldsLog}
 use Rattle.coin_store.specs.declared.marker.Marker.{Marker}
 use Rattle.coin_store.specs.declared.store.CoinStore.{CoinStore}
@@ -19,11 +19,8 @@ use Rattle.coin_store.specs.Places.{CoinPlaces, places_after_rows, places_after_
 use Rattle.coin_store.specs.Staged.{HasEntry, KeepsEntries, Agrees, AreRows}
 use Rattle.coin_store.specs.Staging.{IsStaged, staged_text}
 use Rattle.coin_store.specs.Store.{Knows, Holds, marks, texts}
-use Rattle.coin_store.proofs.BatchSteps.{text_push}
-
-all_pushed : {A : Type 0} (P : A → Type 0) (xs : List A) (x : A) → AllByRecursion P xs → P x → AllByRecursion P (xs ++ x ∷ [])
-all_pushed P [] x all p = (p, tt)
-all_pushed P (y ∷ xs) x all p = (all.0, all_pushed P xs x all.1 p)
+use Rattle.coin_store.proofs.BatchSteps.{text_push, all_push}
+use Rattle.coin_store.proofs.Scanning.{texts_push, marks_push, after_push}
 
 -- ---- one row more
 
@@ -36,8 +33,8 @@ staged_push old new keys payload payloads total rows row text capacity index mas
     let front = s.front in
     record {
       entries = subst (λ (m : CoinPlaces). All (HasEntry m) keys) (sym index) s.entries;
-      named = all_pushed (λ row. Contains keys row.key) rows row s.named named;
-      fit = all_pushed RowFits rows row s.fit fits;
+      named = all_push (λ row. Contains keys row.key) rows row s.named named;
+      fit = all_push RowFits rows row s.fit fits;
       front = omega (arith, ap length text, length-append old.staged.items (row_text old.mask row), front);
       text = ap (drop 65) text ∙ drop-append-le 65 old.staged.items (row_text old.mask row) front ∙ ap (λ (t : List ℕ). t ++ row_text old.mask row) s.text ∙ sym (text_push old.mask rows row)
           ∙ ap (λ (m : List ℕ). rows_text m (rows ++ row ∷ [])) (sym mask);
@@ -63,35 +60,6 @@ staged_is store marker keys payload payloads total rows s = ap (λ (t : List ℕ
 
 -- ---- one payload more
 
-zero_more : (n : ℕ) → n ≡ n + 0
-zero_more n = omega arith
-
-next_gate : (gate : ℕ) (payload : List ℕ) (others : List (List ℕ)) → gate + (5 + length payload) + length (records others) ≡ gate + length (records (payload ∷ others))
-next_gate gate payload others = omega (arith, length-append (1 ∷ body payload) (records others))
-
-marks_push : (mask : List ℕ) (gate : ℕ) (batches : List Batch) (batch : Batch)
-    → marks mask gate (batches ++ batch ∷ []) ≡ marks mask gate batches ++ record { marker = batch.marker; at = gate + length (records (texts mask batches)) } ∷ []
-marks_push mask gate [] batch = let at = zero_more gate in λ i. record { marker = batch.marker; at = at i } ∷ []
-marks_push mask gate (first ∷ batches) batch =
-    let at = next_gate gate (batch_text mask first) (texts mask batches) in
-    let later = gate + (5 + length (batch_text mask first)) in
-    let here : Marked = record { marker = first.marker; at = gate } in
-    ap (λ (l : List Marked). here ∷ l) (marks_push mask later batches batch)
-    ∙ ap (λ (n : ℕ). here ∷ (marks mask later batches ++ record { marker = batch.marker; at = n } ∷ [])) at
-
-places_after_push : (file : ℕ) (mask : List ℕ) (gate : ℕ) (places : CoinPlaces) (batches : List Batch) (batch : Batch)
-    → places_after file mask gate places (batches ++ batch ∷ []) ≡ places_after_batch file mask (gate + length (records (texts mask batches))) (places_after file mask gate places batches) batch
-places_after_push file mask gate places [] batch = ap (λ (n : ℕ). places_after_batch file mask n places batch) (zero_more gate)
-places_after_push file mask gate places (first ∷ batches) batch =
-    let later = gate + (5 + length (batch_text mask first)) in
-    let between = places_after_batch file mask gate places first in
-    places_after_push file mask later between batches batch
-    ∙ ap (λ (n : ℕ). places_after_batch file mask n (places_after file mask later between batches) batch) (next_gate gate (batch_text mask first) (texts mask batches))
-
-pub texts_push : (mask : List ℕ) (batches : List Batch) (batch : Batch) → texts mask (batches ++ batch ∷ []) ≡ texts mask batches ++ batch_text mask batch ∷ []
-texts_push mask [] batch = refl
-texts_push mask (first ∷ batches) batch = ap (λ (l : List (List ℕ)). batch_text mask first ∷ l) (texts_push mask batches batch)
-
 pub knows_push : (old new : CoinStore) (base : List (List Row)) (batches : List Batch) (batch : Batch) → Knows old base batches → BatchFits batch → old.log.end ≡ length (records (texts old.mask batches))
     → new.base ≡ old.base → new.mask ≡ old.mask → new.log.file ≡ old.log.file → new.markers.items ≡ old.markers.items ++ record { marker = batch.marker; at = old.log.end } ∷ []
     → Agrees new.index (places_after_rows old.log.file old.mask old.log.end (length (marker_text batch.marker)) (places_after old.log.file old.mask 0 (base_places old.base old.mask base) batches) batch.rows)
@@ -102,7 +70,7 @@ knows_push old new base batches batch k fits end first mask file markers agree =
     record {
       base_fits = k.base_fits;
       base_none = λ none. k.base_none (sym first ∙ none);
-      fits = all_pushed BatchFits batches batch k.fits fits;
+      fits = all_push BatchFits batches batch k.fits fits;
       markers = markers
           ∙ ap (λ (l : List Marked). l ++ record { marker = batch.marker; at = old.log.end } ∷ []) k.markers
           ∙ ap (λ (n : ℕ). marks old.mask 0 batches ++ record { marker = batch.marker; at = n } ∷ []) at
@@ -110,7 +78,7 @@ knows_push old new base batches batch k fits end first mask file markers agree =
           ∙ ap (λ (m : List ℕ). marks m 0 (batches ++ batch ∷ [])) (sym mask);
       places = λ q. agree q
           ∙ ap (λ (n : ℕ). get (places_after_batch old.log.file old.mask n (places_after old.log.file old.mask 0 places batches) batch) q) at
-          ∙ ap (λ (p : CoinPlaces). get p q) (sym (places_after_push old.log.file old.mask 0 places batches batch))
+          ∙ ap (λ (p : CoinPlaces). get p q) (sym (after_push old.log.file old.mask 0 places batches batch))
           ∙ ap (λ (f : ℕ). get (places_after f old.mask 0 places (batches ++ batch ∷ [])) q) (sym file)
           ∙ ap (λ (b : Option ℕ). get (places_after new.log.file old.mask 0 (base_places b old.mask base) (batches ++ batch ∷ [])) q) (sym first)
           ∙ ap (λ (m : List ℕ). get (places_after new.log.file m 0 (base_places new.base m base) (batches ++ batch ∷ [])) q) (sym mask);
@@ -130,7 +98,7 @@ module _ (contents : Option Image) (left : Image → Type 0) (old new : CoinStor
   applied payload h now left_now s stands is marked fit log_is file first mask markers agree =
       let batch : Batch = record { marker = marker; rows = rows } in
       let payloads : texts old.mask batches ++ payload ∷ [] ≡ texts new.mask (batches ++ batch ∷ []) =
-      ap (λ (p : List ℕ). texts old.mask batches ++ p ∷ []) is ∙ sym (texts_push old.mask batches batch) ∙ ap (λ (m : List ℕ). texts m (batches ++ batch ∷ [])) (sym mask) in
+      ap (λ (p : List ℕ). texts old.mask batches ++ p ∷ []) is ∙ sym (texts_push (batch_text old.mask) batches batch) ∙ ap (λ (m : List ℕ). texts m (batches ++ batch ∷ [])) (sym mask) in
       let new_file : new.log.file ≡ old.log.file = ap (λ (l : OpenLog). l.file) log_is ∙ file in
       record {
         knows = knows_push old new base batches batch h.knows (record { marker = marked; rows = fit }) h.stands.end first mask new_file markers agree;
@@ -155,4 +123,29 @@ restaged old new keys payload payloads before total rows s kept few capacity mar
       short = s.short;
       marked = omega (arith, marked, marks, more);
       room = room;
+    }
+
+-- what is staged stays where no payload was added
+pub still_staged : (old new : CoinStore) (keys : List OutPoint) (payload payloads total : ℕ) (rows : List Row) → IsStaged old keys payload payloads total rows → Unchanged old.log new.log → new.index ≡ old.index → new.mask ≡ old.mask
+    → new.markers ≡ old.markers → drop 65 new.staged.items ≡ drop 65 old.staged.items → vec_len new.staged ≡ vec_len old.staged → vec_capacity new.staged ≡ vec_capacity old.staged → IsStaged new keys payload payloads total rows
+still_staged old new keys payload payloads total rows s log index mask markers text len capacity =
+    let front = s.front in
+    let bytes = s.bytes in
+    let room = s.room in
+    let spare = log.spare in
+    let buffer = log.buffer in
+    record {
+      entries = subst (λ (m : CoinPlaces). All (HasEntry m) keys) (sym index) s.entries;
+      named = s.named;
+      fit = s.fit;
+      front = omega (arith, front, len, old.staged.ok.0, new.staged.ok.0);
+      text = text ∙ s.text ∙ ap (λ (m : List ℕ). rows_text m rows) (sym mask);
+      bytes = omega (arith, bytes, capacity);
+      short = s.short;
+      marked = subst (λ (m : Vec Marked). vec_len m + payloads ≤ vec_capacity m) (sym markers) s.marked;
+      room = record {
+        listed = omega (arith, room.listed, spare);
+        buffered = omega (arith, room.buffered, buffer);
+        fits = omega (arith, room.fits, log.end, log.limit);
+      };
     }

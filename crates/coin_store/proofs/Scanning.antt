@@ -22,7 +22,9 @@ use Rattle.coin_store.specs.BatchReads.{HasBatch, HasBaseRows, HasPayload, IsNon
 use Rattle.coin_store.specs.Opening.{HasBatches, HasBase, HasPayloads, marked_at, IsDamagedAt}
 use Rattle.coin_store.specs.Places.{CoinPlaces, places_after_rows, places_after, places_after_batch}
 use Rattle.coin_store.specs.Reading.{batch_of}
+use Rattle.coin_store.specs.RowLaws.{some_is}
 use Rattle.coin_store.specs.Store.{marks, texts, FirstBroken, FirstBrokenAs, RecordCause, OnDamage}
+use Rattle.coin_store.proofs.BatchSteps.{all_push}
 
 -- ---- the disk stays
 
@@ -48,9 +50,6 @@ pub record PayloadAt (payloads : List (List ℕ)) (i : ℕ) (place : Place) : Ty
   pub here : slice_get payloads i ≡ Some payload
   pub gate : place.at ≡ length (records (take i payloads))
   pub size : place.len ≡ length payload
-
-some_is : {A : Type 0} (x y : A) → Some x ≡ Some y → x ≡ y
-some_is x y e = cc
 
 record From (at : ℕ) (payloads : List (List ℕ)) (i : ℕ) (place : Place) : Type 0 where
   payload : List ℕ
@@ -115,21 +114,21 @@ lengths_within all shown i d is within = omega (arith, ap lengths is, sum_by_mor
 zero_more : (n : ℕ) → n ≡ n + 0
 zero_more n = omega arith
 
-module _ {P : Type 0} (text : P → List ℕ) (Fits : P → Type 0) where
+module _ {P : Type 0} (text : P → List ℕ) where
   pub texts_push : (read : List P) (p : P) → map text (read ++ p ∷ []) ≡ map text read ++ text p ∷ []
   texts_push [] p = refl
   texts_push (first ∷ read) p = ap (λ (l : List (List ℕ)). text first ∷ l) (texts_push read p)
 
-  pub further : (gate : ℕ) (first : P) (read : List P) → gate + (5 + length (text first)) + length (records (map text read)) ≡ gate + length (records (map text (first ∷ read)))
+  further : (gate : ℕ) (first : P) (read : List P) → gate + (5 + length (text first)) + length (records (map text read)) ≡ gate + length (records (map text (first ∷ read)))
   further gate first read = omega (arith, length-append (1 ∷ body (text first)) (records (map text read)))
 
-  fits_push : (read : List P) (p : P) → AllByRecursion Fits read → Fits p → AllByRecursion Fits (read ++ p ∷ [])
-  fits_push [] p fits fit = (fit, tt)
-  fits_push (first ∷ read) p fits fit = (fits.0, fits_push read p fits.1 fit)
+  texts_more : (payloads : List (List ℕ)) (i : ℕ) (read : List P) (p : P) (payload : List ℕ) → slice_get payloads i ≡ Some payload → take i payloads ≡ map text read → payload ≡ text p → take (i + 1) payloads ≡ map text (read ++ p ∷ [])
+  texts_more payloads i read p payload here so_far is =
+      take_more payloads i payload here ∙ ap (λ (l : List (List ℕ)). l ++ payload ∷ []) so_far ∙ ap (λ (t : List ℕ). map text read ++ t ∷ []) is ∙ sym (texts_push read p)
 
-  broken_at : (payloads : List (List ℕ)) (i : ℕ) (place : Place) (of : List ℕ → Option P) (read : List P) → AllByRecursion Fits read → take i payloads ≡ map text read → (p : PayloadAt payloads i place) → of p.payload ≡ None
+  broken_at : (Fits : P → Type 0) (of : List ℕ → Option P) (payloads : List (List ℕ)) (i : ℕ) (place : Place) (read : List P) → AllByRecursion Fits read → take i payloads ≡ map text read → (p : PayloadAt payloads i place) → of p.payload ≡ None
       → FirstBroken text Fits of payloads place.at
-  broken_at payloads i place of read fits is p broken = record {
+  broken_at Fits of payloads i place read fits is p broken = record {
     before = read;
     payload = p.payload;
     others = drop (suc i) payloads;
@@ -139,30 +138,31 @@ module _ {P : Type 0} (text : P → List ℕ) (Fits : P → Type 0) where
     gate = p.gate ∙ ap (λ (l : List (List ℕ)). length (records l)) is;
   }
 
-  texts_more : (payloads : List (List ℕ)) (i : ℕ) (read : List P) (p : P) (payload : List ℕ) → slice_get payloads i ≡ Some payload → take i payloads ≡ map text read → payload ≡ text p → take (i + 1) payloads ≡ map text (read ++ p ∷ [])
-  texts_more payloads i read p payload here so_far is =
-      take_more payloads i payload here ∙ ap (λ (l : List (List ℕ)). l ++ payload ∷ []) so_far ∙ ap (λ (t : List ℕ). map text read ++ t ∷ []) is ∙ sym (texts_push read p)
-
 pub marks_push : (mask : List ℕ) (gate : ℕ) (batches : List Batch) (batch : Batch)
     → marks mask gate (batches ++ batch ∷ []) ≡ marks mask gate batches ++ record { marker = batch.marker; at = gate + length (records (texts mask batches)) } ∷ []
 marks_push mask gate [] batch = ap (λ (n : ℕ). record { marker = batch.marker; at = n } ∷ []) (zero_more gate)
 marks_push mask gate (first ∷ batches) batch =
     ap (λ (l : List Marked). record { marker = first.marker; at = gate } ∷ l) (marks_push mask (gate + (5 + length (batch_text mask first))) batches batch
-    ∙ ap (λ (n : ℕ). marks mask (gate + (5 + length (batch_text mask first))) batches ++ record { marker = batch.marker; at = n } ∷ []) (further (batch_text mask) BatchFits gate first batches))
+    ∙ ap (λ (n : ℕ). marks mask (gate + (5 + length (batch_text mask first))) batches ++ record { marker = batch.marker; at = n } ∷ []) (further (batch_text mask) gate first batches))
 
 pub after_push : (file : ℕ) (mask : List ℕ) (gate : ℕ) (places : CoinPlaces) (batches : List Batch) (batch : Batch)
     → places_after file mask gate places (batches ++ batch ∷ []) ≡ places_after_batch file mask (gate + length (records (texts mask batches))) (places_after file mask gate places batches) batch
 after_push file mask gate places [] batch = ap (λ (n : ℕ). places_after_batch file mask n places batch) (zero_more gate)
 after_push file mask gate places (first ∷ batches) batch =
     after_push file mask (gate + (5 + length (batch_text mask first))) (places_after_batch file mask gate places first) batches batch
-    ∙ ap (λ (n : ℕ). places_after_batch file mask n (places_after file mask (gate + (5 + length (batch_text mask first))) (places_after_batch file mask gate places first) batches) batch) (further (batch_text mask) BatchFits gate first batches)
+    ∙ ap (λ (n : ℕ). places_after_batch file mask n (places_after file mask (gate + (5 + length (batch_text mask first))) (places_after_batch file mask gate places first) batches) batch) (further (batch_text mask) gate first batches)
 
 base_push : (file : ℕ) (mask : List ℕ) (gate : ℕ) (places : CoinPlaces) (base : List (List Row)) (rows : List Row)
     → places_after_base file mask gate places (base ++ rows ∷ []) ≡ places_after_rows file mask (gate + length (records (base_texts mask base))) 0 (places_after_base file mask gate places base) rows
 base_push file mask gate places [] rows = ap (λ (n : ℕ). places_after_rows file mask n 0 places rows) (zero_more gate)
 base_push file mask gate places (first ∷ base) rows =
     base_push file mask (gate + (5 + length (rows_text mask first))) (places_after_rows file mask gate 0 places first) base rows
-    ∙ ap (λ (n : ℕ). places_after_rows file mask n 0 (places_after_base file mask (gate + (5 + length (rows_text mask first))) (places_after_rows file mask gate 0 places first) base) rows) (further (rows_text mask) BaseFits gate first base)
+    ∙ ap (λ (n : ℕ). places_after_rows file mask n 0 (places_after_base file mask (gate + (5 + length (rows_text mask first))) (places_after_rows file mask gate 0 places first) base) rows) (further (rows_text mask) gate first base)
+
+-- there are as many places as payloads
+pub as_many : (at : ℕ) (payloads : List (List ℕ)) → length (places_of at payloads) ≡ length payloads
+as_many at [] = refl
+as_many at (payload ∷ payloads) = ap suc (as_many (at + (5 + length payload)) payloads)
 
 module _ (file : ℕ) (mask : List ℕ) (payloads : List (List ℕ)) (old : CoinPlaces) where
   pub scan_none : (kind : Kind) → HasPayloads kind file mask [] old old []
@@ -176,8 +176,8 @@ module _ (file : ℕ) (mask : List ℕ) (payloads : List (List ℕ)) (old : Coin
       let zero_gate : place.at ≡ 0 + length (records (texts mask h.batches)) = omega (arith, gate) in
       record {
         batches = h.batches ++ b.batch ∷ [];
-        fits = fits_push (batch_text mask) BatchFits h.batches b.batch h.fits b.fits;
-        is = texts_more (batch_text mask) BatchFits payloads i h.batches b.batch p.payload p.here h.is b.is;
+        fits = all_push BatchFits h.batches b.batch h.fits b.fits;
+        is = texts_more (batch_text mask) payloads i h.batches b.batch p.payload p.here h.is b.is;
         marked = is
             ∙ ap (λ (l : List Marked). l ++ record { marker = marker; at = place.at } ∷ []) h.marked
             ∙ ap (λ (m : Marker). marks mask 0 h.batches ++ record { marker = m; at = place.at } ∷ []) (sym b.marked)
@@ -196,8 +196,8 @@ module _ (file : ℕ) (mask : List ℕ) (payloads : List (List ℕ)) (old : Coin
       let zero_gate : place.at ≡ 0 + length (records (base_texts mask h.base)) = omega (arith, gate) in
       record {
         base = h.base ++ b.rows ∷ [];
-        fits = fits_push (rows_text mask) BaseFits h.base b.rows h.fits b.fits;
-        is = texts_more (rows_text mask) BaseFits payloads i h.base b.rows p.payload p.here h.is b.is;
+        fits = all_push BaseFits h.base b.rows h.fits b.fits;
+        is = texts_more (rows_text mask) payloads i h.base b.rows p.payload p.here h.is b.is;
         places = b.places
             ∙ ap (λ (n : ℕ). places_after_rows file mask n 0 mid b.rows) zero_gate
             ∙ ap (λ (m : CoinPlaces). places_after_rows file mask (0 + length (records (base_texts mask h.base))) 0 m b.rows) h.places
@@ -212,8 +212,8 @@ module _ (file : ℕ) (mask : List ℕ) (payloads : List (List ℕ)) (old : Coin
 
   scan_broken : (kind : Kind) (i : ℕ) (place : Place) (mid : CoinPlaces) (markers : List Marked) → HasPayloads kind file mask (take i payloads) old mid markers → (p : PayloadAt payloads i place)
       → IsNone kind mask p.payload → FirstBrokenAs kind mask payloads place.at
-  scan_broken Base i place mid markers h p broken = broken_at (rows_text mask) BaseFits payloads i place (base_of mask) h.base h.fits h.is p broken
-  scan_broken Coins i place mid markers h p broken = broken_at (batch_text mask) BatchFits payloads i place (batch_of mask) h.batches h.fits h.is p broken
+  scan_broken Base i place mid markers h p broken = broken_at (rows_text mask) BaseFits (base_of mask) payloads i place h.base h.fits h.is p broken
+  scan_broken Coins i place mid markers h p broken = broken_at (batch_text mask) BatchFits (batch_of mask) payloads i place h.batches h.fits h.is p broken
 
   pub scan_faulty : (kind : Kind) (i : ℕ) (place : Place) (mid : CoinPlaces) (markers : List Marked) → HasPayloads kind file mask (take i payloads) old mid markers → (p : PayloadAt payloads i place)
       → (fault : StoreFault) (f before now : ℕ) → RecordCause f place.at before now fault → OnDamage (IsNone kind mask p.payload) fault → IsDamagedAt kind mask payloads fault
@@ -225,7 +225,4 @@ module _ (file : ℕ) (mask : List ℕ) (payloads : List (List ℕ)) (old : Coin
 
   pub scan_all : (kind : Kind) (i : ℕ) (log : OpenLog) (new : CoinPlaces) (markers : List Marked) → log.places ≡ places_of 0 payloads → length log.places ≤ i → HasPayloads kind file mask (take i payloads) old new markers
       → HasPayloads kind file mask payloads old new markers
-  scan_all kind i log new markers is over h = subst (λ (l : List (List ℕ)). HasPayloads kind file mask l old new markers) (take_all i payloads (omega (arith, over, ap length is, length-places_of 0 payloads))) h where
-    length-places_of : (at : ℕ) (ps : List (List ℕ)) → length (places_of at ps) ≡ length ps
-    length-places_of at [] = refl
-    length-places_of at (p ∷ ps) = ap suc (length-places_of (at + (5 + length p)) ps)
+  scan_all kind i log new markers is over h = subst (λ (l : List (List ℕ)). HasPayloads kind file mask l old new markers) (take_all i payloads (omega (arith, over, ap length is, as_many 0 payloads))) h

@@ -13,8 +13,7 @@ use Rattle.batch_log.specs.Reading.{ReadAtMost}
 use Rattle.batch_log.specs.Records.{SameLog, log, payloads_from}
 use Rattle.coin_store.specs.declared.kind.Kind.TheVariants.{Base, Coins}
 use Rattle.coin_store.specs.Files.{IsOneOf, IsBaseFile, InFiles, OthersKeptBut, FilesCause, log_reads, is_base_file, base_reads, store_reads, ReadWithin}
-use Rattle.coin_store.specs.Opening.{LogDamage, BaseDamage}
-use Rattle.coin_store.specs.Store.{DamagedAs, DamageIn}
+use Rattle.coin_store.specs.RowLaws.{some_is}
 
 -- ---- a file is this one, or another
 
@@ -23,9 +22,6 @@ same_or_not f g = elim (cases_Bool (eqb f g)) [
   | inl t ↦ inl (eqb-true f g t)
   | inr apart ↦ inr (λ e. let t = eq-eqb f g e in cc)
 ]
-
-some_is : {A : Type 0} (x y : A) → Some x ≡ Some y → x ≡ y
-some_is x y e = cc
 
 base_or_not : (base : Option ℕ) (f : ℕ) → (base ≡ Some f) ⊎ (base ≢ Some f)
 base_or_not None f = inr (λ e. cc)

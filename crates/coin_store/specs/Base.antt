@@ -1,5 +1,5 @@
 -- The payloads of a base file: rows, each with a coin. The rows of batches overrule them.
-use Rattle.std.specs.Prelude.{◌≡◌, ℕ, ◌+◌, List, [], ◌∷◌, length, map, is_some, IsTrue, Option, Some, None, Result, Ok, if◌then◌else◌}
+use Rattle.std.specs.Prelude.{◌≡◌, ℕ, ◌+◌, Bool, List, [], ◌∷◌, length, map, is_some, IsTrue, Option, Some, None, Result, Ok, if◌then◌else◌}
 use Rattle.std.specs.FinMap.{empty}
 use Rattle.std.specs.List.{list_all, AllByRecursion}
 use Rattle.disk_model.specs.Disk.{Image}
@@ -8,7 +8,6 @@ use Rattle.batch_log.specs.Records.{log}
 use Rattle.coin_store.specs.Batches.{Row, Batch, rows_text, RowFits}
 use Rattle.coin_store.specs.Places.{CoinPlaces, coins_after_rows, coins_after, places_after_rows}
 use Rattle.coin_store.specs.Reading.{◌>>=◌, rows_of}
-use Rattle.std.specs.Prelude.{Bool}
 
 abbrev pub has_coin : Row → Bool
 has_coin row = is_some row.coin

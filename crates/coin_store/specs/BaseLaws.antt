@@ -6,7 +6,7 @@ use Rattle.std.proofs.lemmas.Bool.{cases_Bool}
 use Rattle.base_types.specs.Codec.{IsBytes}
 use Rattle.coin_store.specs.Base.{has_coin, BaseFits, base_of}
 use Rattle.coin_store.specs.Batches.{Row, rows_text, RowFits}
-use Rattle.coin_store.specs.BatchLaws.{rows_again, rows_takes}
+use Rattle.coin_store.specs.BatchLaws.{rows_again, rows_takes, none_is}
 use Rattle.coin_store.specs.Reading.{◌>>=◌, rows_of}
 use Rattle.coin_store.specs.RowLaws.{some_is, bind_some}
 
@@ -14,12 +14,6 @@ use Rattle.coin_store.specs.RowLaws.{some_is, bind_some}
 pub base_again : (mask : List ℕ) (rows : List Row) → BaseFits rows → base_of mask (rows_text mask rows) ≡ Some rows
 unfolding base_of
 base_again mask rows fits = rw (rows_again mask rows (length (rows_text mask rows)) fits.fit (omega arith), fits.coins) refl
-
-abbrev nothing : {A : Type 0} → Option A
-nothing = None
-
-none_is : {A : Type 0} (x : A) → nothing {A = A} ≡ Some x → ⊥
-none_is x e = cc
 
 -- bytes that are read as rows with coins are their text
 pub base_takes : (mask bytes : List ℕ) (rows : List Row) → IsBytes mask → IsBytes bytes → base_of mask bytes ≡ Some rows → (bytes ≡ rows_text mask rows) × BaseFits rows

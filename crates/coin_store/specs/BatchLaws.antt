@@ -105,10 +105,10 @@ between_takes bytes marker rest e =
     let found : MarkerTakes (0x48 ∷ bytes) made.0 made.1 = (is, (new_tip.1, old_tip.1)) in
     subst (λ (y : Marker × List ℕ). MarkerTakes (0x48 ∷ bytes) y.0 y.1) (some_is made (marker, rest) b.2) found
 
-abbrev nothing : {A : Type 0} → Option A
+abbrev pub nothing : {A : Type 0} → Option A
 nothing = None
 
-none_is : {A : Type 0} (x : A) → nothing {A = A} ≡ Some x → ⊥
+pub none_is : {A : Type 0} (x : A) → nothing {A = A} ≡ Some x → ⊥
 none_is x e = cc
 
 pub marker_takes : (bytes : List ℕ) (marker : Marker) (rest : List ℕ) → marker_of bytes ≡ Some (marker, rest) → MarkerTakes bytes marker rest

@@ -11,7 +11,7 @@ IsOneOf base_file coin_file f = (base_file ≡ Some f) ⊎ (f ≡ coin_file)
 abbrev pub IsBaseFile : Option ℕ → ℕ → Type 0
 IsBaseFile base_file f = base_file ≡ Some f
 
--- each of these files takes this step, as others might that stay
+-- each file takes this step, and all but these stay
 pub record InFiles (IsFile : ℕ → Type 0) (Step : List ℕ → List ℕ → Type 0) (old new : Image) : Type 0 where
   pub each : (f : ℕ) → Step (old f) (new f)
   pub others : (f : ℕ) → (IsFile f → ⊥) → new f ≡ old f

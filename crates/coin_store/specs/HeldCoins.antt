@@ -19,7 +19,7 @@ use Rattle.coin_store.specs.Base.{BaseFits, base_texts, base_coins, coins_after_
 use Rattle.coin_store.specs.Batches.{Row, Batch, covered, value_text, head_text, row_text, rows_text, marker_text, batch_text, RowFits, ValueFits, BatchFits}
 use Rattle.coin_store.specs.Places.{CoinPlaces, put, place_of, coins_after_rows, coins_after, places_after_rows, places_after_batch, places_after, live, bytes_there, coin_there, coins_at_places}
 use Rattle.coin_store.specs.Reading.{◌>>=◌, value_of}
-use Rattle.coin_store.specs.RowLaws.{value_again, length-covered, covered_twice}
+use Rattle.coin_store.specs.RowLaws.{some_is, value_again, length-covered, covered_twice}
 use Rattle.coin_store.specs.Seen.{get-put, seen, no_bytes}
 use Rattle.coin_store.specs.Store.{Knows, Holds, texts}
 use Rattle.coin_store.specs.Viewing.{coins_seen}
@@ -155,9 +155,6 @@ coins_in store base batches k image stands closed =
     ∙ live_means store.mask image (get store.index q)
     ∙ ap (λ (p : Option CoinPlace). p >>= coin_there store.mask image) (k.places q)
     ∙ batches_mean file store.mask image 0 batches (closed.gate ∷ closed.rest) places (base_coins base) k.fits (begun (texts store.mask batches) (image file) closed) first q)
-
-some_is : {A : Type 0} (x y : A) → Some x ≡ Some y → x ≡ y
-some_is x y e = cc
 
 -- the coins of a store, as the disk reads
 pub held_coins : (contents : Option Image) (left : Image → Type 0) (store : CoinStore) (base : List (List Row)) (batches : List Batch) → Holds contents left store base batches → coins_seen store contents ≡ Some (rows_after base batches)

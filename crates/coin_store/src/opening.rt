@@ -68,11 +68,7 @@ fn read_record<D: Disk>(
 }
 
 // Adds a marker with the offset of its gate, if there is one.
-fn keep_marker(
-    markers: &mut Vec<Marked>,
-    marker: Option<Marker>,
-    at: u64,
-) -> Result<(), StoreFault>
+fn keep_marker(markers: &mut Vec<Marked>, marker: Option<Marker>, at: u64) -> Result<(), StoreFault>
     ensures ok { OnOk result (markers.new.items ≡ markers.old.items ++ marked_at marker at) }
     ensures cause { IfErr result (λ e. e ≡ NoMemory) }
 {
@@ -116,11 +112,20 @@ fn read_log<D: Disk>(
         let Ok(()) = payload.resize(place.len as usize, 0) else {
             return Err(StoreFault::NoMemory);
         };
-        let marker =
-            match read_record(alloc, disk, log, file, kind, place, mask, index, &mut payload) {
-                Ok(marker) => marker,
-                Err(fault) => return Err(fault),
-            };
+        let marker = match read_record(
+            alloc,
+            disk,
+            log,
+            file,
+            kind,
+            place,
+            mask,
+            index,
+            &mut payload,
+        ) {
+            Ok(marker) => marker,
+            Err(fault) => return Err(fault),
+        };
         if let Err(fault) = keep_marker(&mut markers, marker, place.at) {
             return Err(fault);
         }

@@ -93,7 +93,7 @@ impl CoinStore {
         // At any moment the files stand for the same payloads.
         ensures any_moment { (m : ℕ → List ℕ) → D.contents disk.old ≡ Some m → Leaves D.time D.left_since (InFiles (IsOneOf base_file coin_file) SameLog) disk.old disk.new }
 
-        // A file of more than one byte stays, and any other becomes one closed gate.
+        // Files of more than one byte stay, and any other becomes one closed gate.
         ensures long { (m : ℕ → List ℕ) → D.contents disk.old ≡ Some m → ((f : ℕ) → IsOneOf base_file coin_file f → 1 < length (m f))
             → (D.contents disk.new ≡ D.contents disk.old) × Quiet D.time D.left_since disk.old disk.new }
         ensures tiny { (m : ℕ → List ℕ) (f : ℕ) → D.contents disk.old ≡ Some m → IsOneOf base_file coin_file f → length (m f) ≤ 1
@@ -110,7 +110,15 @@ impl CoinStore {
         if let Err(fault) = open_base(alloc, disk, base_file, limits, &key, &mut index) {
             return Err(fault);
         }
-        match open_log(alloc, disk, coin_file, Kind::Coins, limits, &key, &mut index) {
+        match open_log(
+            alloc,
+            disk,
+            coin_file,
+            Kind::Coins,
+            limits,
+            &key,
+            &mut index,
+        ) {
             Ok(ReadLog { log, markers }) => Ok(CoinStore {
                 log,
                 file: coin_file,
@@ -200,7 +208,7 @@ impl CoinStore {
 
     /// Appends one payload of the marker and the staged rows, in their order. From Ok on rows and marker are those after it,
     /// and no row is staged. This takes no memory: the only error is `DiskFailed`, and the rows and the marker are then as
-    /// before.
+    /// before, and the staged rows stay staged.
     pub fn apply<D: Disk>(&mut self, disk: &mut D, marker: &Marker) -> Result<(), StoreFault>
         requires { IsReady self.old marker.now }
         ensures ok { (base : List (List Row)) (batches : List Batch) (keys : List OutPoint) (payload payloads total : ℕ) (rows : List Row)
@@ -225,6 +233,7 @@ impl CoinStore {
         ensures read { D.bytes_read disk.new ≡ D.bytes_read disk.old }
         ensures same { SameStore self.old self.new }
         ensures err { OnErr result (SameRows self.old self.new) }
+        ensures kept { (keys : List OutPoint) (payload payloads total : ℕ) (rows : List Row) → IsStaged self.old keys payload payloads total rows → OnErr result (IsStaged self.new keys payload payloads total rows) }
         ensures knows { (base : List (List Row)) (batches : List Batch) → Knows self.old base batches → OnErr result (Knows self.new base batches) }
         ensures cause { IfErr result (λ e. (e ≡ Failed) × Rose (D.faults disk.old) (D.faults disk.new)) }
         ensures faults { D.faults disk.old ≤ D.faults disk.new }

@@ -26,8 +26,8 @@ const FIRST: OutPoint = OutPoint {
 
 const NO_KEY: [u8; 8] = [0; 8];
 
-/// The payloads as the log of file 3.
-fn image_of(alloc: Global, payloads: &[&[u8]]) -> Result<Image, Fail> {
+/// The payloads as a log.
+fn log_of(alloc: Global, payloads: &[&[u8]]) -> Result<Vec<u8>, Fail> {
     let mut bytes = Vec::new(alloc);
     for payload in payloads {
         let payload: &[u8] = *payload;
@@ -36,9 +36,24 @@ fn image_of(alloc: Global, payloads: &[&[u8]]) -> Result<Image, Fail> {
         bytes.extend_from_slice(payload)?;
     }
     bytes.push(0)?;
+    Ok(bytes)
+}
+
+/// The payloads as the log of file 3.
+fn image_of(alloc: Global, payloads: &[&[u8]]) -> Result<Image, Fail> {
     let mut image = Image::new(alloc);
-    image.put(3, &bytes)?;
+    image.put(3, &log_of(alloc, payloads)?)?;
     Ok(image)
+}
+
+/// Adds a row of that output of the first outpoint's transaction, with these bytes.
+fn add_row(payload: &mut Vec<u8>, output: u8, value: &[u8]) -> Result<(), Fail> {
+    payload.push(0x43)?;
+    payload.extend_from_slice(&[0x11; 32])?;
+    payload.push(output)?;
+    payload.push(value.len().min(252) as u8)?;
+    payload.extend_from_slice(value)?;
+    Ok(())
 }
 
 /// A marker at the tip, and a row of the first outpoint with these bytes.
@@ -46,11 +61,7 @@ fn one_row(alloc: Global, value: &[u8]) -> Result<Vec<u8>, Fail> {
     let mut payload = Vec::new(alloc);
     payload.push(0x42)?;
     payload.extend_from_slice(&[0x22; 32])?;
-    payload.push(0x43)?;
-    payload.extend_from_slice(&[0x11; 32])?;
-    payload.push(0)?;
-    payload.push(value.len().min(252) as u8)?;
-    payload.extend_from_slice(value)?;
+    add_row(&mut payload, 0, value)?;
     Ok(payload)
 }
 
@@ -58,13 +69,22 @@ fn open<D: Disk>(alloc: Global, disk: &mut D, key: [u8; 8]) -> Result<CoinStore,
     CoinStore::open(alloc, disk, 3, None, &START, &LIMITS, &SALT, key)
 }
 
-/// The value of the first outpoint's coin, in satoshis.
-fn value<D: Disk>(store: &CoinStore, disk: &mut D) -> Result<Option<u64>, StoreFault> {
+/// The value of an outpoint's coin, in satoshis.
+fn value_at<D: Disk>(
+    store: &CoinStore,
+    disk: &mut D,
+    key: &OutPoint,
+) -> Result<Option<u64>, StoreFault> {
     let mut view = store.view(disk);
-    match view.get(&FIRST)? {
+    match view.get(key)? {
         Some(coin) => Ok(Some(coin.value)),
         None => Ok(None),
     }
+}
+
+/// That of the first outpoint's coin.
+fn value<D: Disk>(store: &CoinStore, disk: &mut D) -> Result<Option<u64>, StoreFault> {
+    value_at(store, disk, &FIRST)
 }
 
 #[test]
@@ -92,6 +112,56 @@ fn a_later_row_overrules(rt: HostRuntime) -> Result<(), Fail> {
         if count > 1 {
             assert_eq!(rt; store.marker_at(1), Some((Marker::At { tip: TIP }, 77)));
         }
+    }
+    Ok(())
+}
+
+/// The values of the coins of the first three outputs.
+fn values<D: Disk>(store: &CoinStore, disk: &mut D) -> Result<[Option<u64>; 3], StoreFault> {
+    Ok([
+        value_at(store, disk, &FIRST)?,
+        value_at(store, disk, &OutPoint { index: 1, ..FIRST })?,
+        value_at(store, disk, &OutPoint { index: 2, ..FIRST })?,
+    ])
+}
+
+/// Opens file 3 on the base file 4, which has these bytes. A batch overrules the coin of the first output, and takes that
+/// of the second away.
+fn values_on(alloc: Global, base: &[u8]) -> Result<Result<[Option<u64>; 3], StoreFault>, Fail> {
+    let mut batch = one_row(alloc, &[0x03, 0x31, 0x07, 0x51])?;
+    add_row(&mut batch, 1, &[])?;
+    let mut image = image_of(alloc, &[&batch])?;
+    image.put(4, base)?;
+    let mut disk = MemDisk::from_image(alloc, &image)?;
+    match CoinStore::open(alloc, &mut disk, 3, Some(4), &START, &LIMITS, &SALT, NO_KEY) {
+        Ok(store) => Ok(values(&store, &mut disk)),
+        Err(fault) => Ok(Err(fault)),
+    }
+}
+
+#[test]
+fn batches_overrule_a_base(rt: HostRuntime) -> Result<(), Fail> {
+    let coin = [0x03, 0x32, 0x07, 0x51];
+    let mut first = Vec::new(rt.alloc());
+    add_row(&mut first, 0, &coin)?;
+    add_row(&mut first, 1, &coin)?;
+    let mut second = Vec::new(rt.alloc());
+    add_row(&mut second, 2, &coin)?;
+    let mut bare = Vec::new(rt.alloc());
+    add_row(&mut bare, 2, &[])?;
+    let whole = log_of(rt.alloc(), &[&first, &second])?;
+    let without_coin = log_of(rt.alloc(), &[&first, &bare])?;
+    let (_, cut_short) = whole.split_last().expect(&rt, "bytes");
+    // The second payload's gate is at 83.
+    let damaged = Err(StoreFault::Damaged { file: 4, at: 83 });
+    let rows: [(&[u8], Result<[Option<u64>; 3], StoreFault>); 3] = [
+        (&whole, Ok([Some(500_000_000), None, Some(5_000_000_000)])),
+        (&without_coin, damaged),
+        (cut_short, damaged),
+    ];
+    for (base, want) in rows {
+        let found = values_on(rt.alloc(), base)?;
+        assert_eq!(rt; found, want);
     }
     Ok(())
 }

@@ -11,7 +11,7 @@ use Rattle.coin_store.specs.Places.{places_after_rows, places_after}
 use Rattle.coin_store.specs.Staged.{AreRows, Agrees}
 use Rattle.coin_store.specs.StagingLaws.{knows_same}
 use Rattle.coin_store.specs.Store.{texts}
-use Rattle.coin_store.proofs.Payloads.{payload_is, staged_is, are_rows, applied, restaged}
+use Rattle.coin_store.proofs.Payloads.{payload_is, staged_is, are_rows, applied, restaged, still_staged}
 use Rattle.coin_store.proofs.store.CoinStore.apply.Goals as goal
 
 pub returns-in-Err-clause-any_moment : goal.returns-in-Err-clause-any_moment
@@ -22,6 +22,10 @@ returns-in-Err-clause-any_moment g c = λ base batches keys payload payloads tot
 
 pub returns-in-Err-clause-knows : goal.returns-in-Err-clause-knows
 returns-in-Err-clause-knows g c = λ base batches knows. knows_same c.args.self.now _ base batches (record { log = c.in-Err.ensures.err; base = refl; mask = refl; start = refl; markers = refl; places = λ q. refl }) knows
+
+pub returns-in-Err-clause-kept : goal.returns-in-Err-clause-kept
+returns-in-Err-clause-kept g c = λ keys payload payloads total rows staged.
+    still_staged c.args.self.now _ keys payload payloads total rows staged c.in-Err.ensures.err refl refl refl c.put_marker-from.ensures.rows c.put_marker-from.ensures.len c.put_marker-from.ensures.capacity
 
 pub returns-clause-any_moment : goal.returns-clause-any_moment
 returns-clause-any_moment g c = λ base batches keys payload payloads total rows holds staged.

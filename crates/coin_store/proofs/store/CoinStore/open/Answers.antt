@@ -25,7 +25,7 @@ returns-in-Ok-clause-any_moment g c = λ m told.
     (c.in_default.ensures.any_moment m told) (c.in-Ok.ensures.any_moment mid.image mid.told)
 
 pub returns-in-Ok-clause-part : goal.returns-in-Ok-clause-part
-returns-in-Ok-clause-part g c = 
+returns-in-Ok-clause-part g c =
     both_leave g.D.Disk.time g.D.Disk.left_since c.args.base_file c.args.coin_file (Torn 0 1) g.met.D.Disk.since_earlier torn_still torn_on c.args.disk.now c.open_base.new.disk c.open_log.new.disk
     c.in_default.ensures.part c.in-Ok.ensures.part
 
@@ -44,7 +44,7 @@ returns-in-Err-open_log-clause-any_moment g c = λ m told.
     (c.in_default.ensures.any_moment m told) (c.in-Err-open_log.ensures.any_moment mid.image mid.told)
 
 pub returns-in-Err-open_log-clause-part : goal.returns-in-Err-open_log-clause-part
-returns-in-Err-open_log-clause-part g c = 
+returns-in-Err-open_log-clause-part g c =
     both_leave g.D.Disk.time g.D.Disk.left_since c.args.base_file c.args.coin_file (Torn 0 1) g.met.D.Disk.since_earlier torn_still torn_on c.args.disk.now c.open_base.new.disk c.open_log.new.disk
     c.in_default.ensures.part c.in-Err-open_log.ensures.part
 

@@ -9,7 +9,6 @@ use Rattle.std.proofs.lemmas.List.{length-append, length-take, length-drop, drop
 use Rattle.std.proofs.lemmas.List.Concat.{flat_map-append}
 use borrow.Rule.Slice.PartMut.{put_mid, same_len_mid}
 use Rattle.base_types.specs.declared.coin.Coin.{Coin}
-use Rattle.base_types.specs.declared.hash.OutPoint.{OutPoint}
 use Rattle.coin_codec.specs.KeyText.{key_text}
 use Rattle.coin_store.specs.declared.marker.Marker.{Marker}
 use Rattle.coin_store.specs.declared.places.CoinPlace.{CoinPlace}

@@ -1,5 +1,5 @@
 -- One staged row more, and one payload more.
-use Rattle.std.specs.Prelude.{◌≡◌, ℕ, ◌+◌, ◌-◌, ◌≤◌, All, Contains, List, [], ◌∷◌, ◌++◌, length, take, drop, get_or, Option, Some, vec_len, vec_capacity, refl}
+use Rattle.std.specs.Prelude.{◌≡◌, ℕ, ◌+◌, ◌-◌, ◌≤◌, All, Contains, List, [], ◌∷◌, ◌++◌, length, take, drop, get_or, Option, Some, vec_len, vec_capacity}
 use Rattle.std.specs.Global.{Vec}
 use Rattle.std.specs.FinMap.{get}
 use Rattle.std.specs.List.{AllByRecursion}
@@ -9,7 +9,7 @@ use Rattle.std.proofs.lemmas.List.Elements.{All-contains}
 use Rattle.disk_model.specs.Disk.{Image}
 use Rattle.base_types.specs.declared.hash.OutPoint.{OutPoint}
 use Rattle.batch_log.specs.OpenLog.{OpenLog, Stands, Unchanged, HasRoom}
-use Rattle.batch_log.specs.Records.{body, records, HoldsLog}
+use Rattle.batch_log.specs.Records.{records, HoldsLog}
 use Rattle.coin_store.specs.declared.marker.Marker.{Marker}
 use Rattle.coin_store.specs.declared.store.CoinStore.{CoinStore}
 use Rattle.coin_store.specs.declared.store.Marked.{Marked}

@@ -1,18 +1,17 @@
 -- Opening the base file, and then the coin file.
-use Rattle.std.specs.Prelude.{◌≡◌, ◌≢◌, ◌⊎◌, ℕ, ◌+◌, ◌-◌, ◌<◌, ◌≤◌, Bool, true, false, min, max, List, [], ◌∷◌, length, take, drop, nat_le, Option, Some, None, Result, Ok, Err, refl}
+use Rattle.std.specs.Prelude.{◌≡◌, ◌≢◌, ◌⊎◌, ℕ, ◌+◌, ◌-◌, ◌<◌, ◌≤◌, Bool, true, false, min, List, [], ◌∷◌, length, take, drop, nat_le, Option, Some, None, Ok, refl}
 use Rattle.std.proofs.Common.{cond, eqb, sym, ap, subst, ◌∙◌, arith, inl, inr, ⊎_elim, eq-eqb}
 use Rattle.std.proofs.lemmas.Bool.{cases_Bool, cases_lt, eqb-true}
 use Rattle.std.proofs.lemmas.Bool.Decides.{nat_tests}
 use Rattle.std.proofs.lemmas.List.{take_all, take-take, drop-take}
-use Rattle.disk_model.specs.Disk.{Image, At, Torn, Leaves, Quiet, Only, OthersKept}
-use Rattle.disk_model.specs.Moments.{IsSinceEarlier, leaves_none, leaves_then, leaves_wider, elsewhere}
+use Rattle.disk_model.specs.Disk.{Image, At, Torn, Leaves, Only, OthersKept}
+use Rattle.disk_model.specs.Moments.{IsSinceEarlier, leaves_then, leaves_wider, elsewhere}
 use Rattle.base_types.specs.declared.fault.StoreFault.{StoreFault}
 use Rattle.base_types.specs.declared.fault.StoreFault.TheVariants.{NoMemory, DiskFailed, Damaged, Full, CacheFull}
 use Rattle.batch_log.specs.Opening.{OpenCause}
 use Rattle.batch_log.specs.Reading.{ReadAtMost}
 use Rattle.batch_log.specs.Records.{SameLog, log, payloads_from}
-use Rattle.coin_store.specs.declared.kind.Kind.TheVariants.{Base, Coins}
-use Rattle.coin_store.specs.Files.{IsOneOf, IsBaseFile, InFiles, OthersKeptBut, FilesCause, log_reads, is_base_file, base_reads, store_reads, ReadWithin}
+use Rattle.coin_store.specs.Files.{IsOneOf, IsBaseFile, InFiles, OthersKeptBut, FilesCause, log_reads, base_reads, store_reads, ReadWithin}
 use Rattle.coin_store.specs.RowLaws.{some_is}
 
 -- ---- a file is this one, or another

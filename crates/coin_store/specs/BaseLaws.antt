@@ -1,13 +1,13 @@
 -- What is read of a payload of a base is so spelled, and what is so spelled is read.
-use Rattle.std.specs.Prelude.{◌≡◌, ℕ, Bool, true, false, List, length, Option, Some, None, refl}
+use Rattle.std.specs.Prelude.{◌≡◌, ℕ, false, List, length, Some, None, refl}
 use Rattle.std.specs.List.{list_all, AllByRecursion}
-use Rattle.std.proofs.Common.{cond, subst, ◌∙◌, arith, inl, inr}
+use Rattle.std.proofs.Common.{subst, arith, inl, inr}
 use Rattle.std.proofs.lemmas.Bool.{cases_Bool}
 use Rattle.base_types.specs.Codec.{IsBytes}
 use Rattle.coin_store.specs.Base.{has_coin, BaseFits, base_of}
 use Rattle.coin_store.specs.Batches.{Row, rows_text, RowFits}
 use Rattle.coin_store.specs.BatchLaws.{rows_again, rows_takes, none_is}
-use Rattle.coin_store.specs.Reading.{◌>>=◌, rows_of}
+use Rattle.coin_store.specs.Reading.{rows_of}
 use Rattle.coin_store.specs.RowLaws.{some_is, bind_some}
 
 -- the text of rows with coins is read as them

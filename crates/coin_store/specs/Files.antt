@@ -1,5 +1,5 @@
 -- What opening does to the files of a store, and what it reads of them.
-use Rattle.std.specs.Prelude.{⊤, ◌≡◌, ◌≢◌, ◌⊎◌, ℕ, ◌+◌, ◌≤◌, ◌==◌, Bool, false, List, length, nat_le, if◌then◌else◌, Option, Some, None}
+use Rattle.std.specs.Prelude.{⊤, ◌≡◌, ◌⊎◌, ℕ, ◌+◌, ◌≤◌, ◌==◌, Bool, false, List, length, nat_le, if◌then◌else◌, Option, Some, None}
 use Rattle.disk_model.specs.Disk.{Image, Rose, BothTold}
 use Rattle.base_types.specs.declared.fault.StoreFault.{StoreFault}
 use Rattle.base_types.specs.declared.fault.StoreFault.TheVariants.{NoMemory, DiskFailed, Damaged, Full, CacheFull}

@@ -1,4 +1,4 @@
-use Rattle.std.specs.Prelude.{◌≡◌, ℕ, ◌+◌, ◌<◌, ◌≤◌, List, length, drop}
+use Rattle.std.specs.Prelude.{ℕ, ◌+◌, ◌<◌, ◌≤◌, List, length, drop}
 use Rattle.std.proofs.Common.{refl, arith, ap, subst, ◌∙◌}
 use Rattle.coin_store.specs.Rows.{IsRow}
 use Rattle.coin_store.proofs.BatchSteps.{read_none, read_more, read_all, row_grows, later_stays, nearer_end, part_is, faulty_rows}

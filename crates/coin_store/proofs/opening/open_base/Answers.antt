@@ -1,4 +1,4 @@
-use Rattle.std.specs.Prelude.{◌≡◌, ℕ, List, Some, Option}
+use Rattle.std.specs.Prelude.{ℕ, Option}
 use Rattle.std.proofs.Common.{sym, subst}
 use Rattle.disk_model.specs.Disk.{Torn}
 use Rattle.batch_log.specs.Records.{SameLog}

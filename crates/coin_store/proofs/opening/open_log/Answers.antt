@@ -1,5 +1,5 @@
-use Rattle.std.specs.Prelude.{◌<◌, List, ℕ, length}
-use Rattle.std.proofs.Common.{◌∙◌, subst}
+use Rattle.std.specs.Prelude.{◌<◌, length}
+use Rattle.std.proofs.Common.{◌∙◌}
 use Rattle.batch_log.specs.Reading.{read_then, read_wider}
 use Rattle.batch_log.specs.Records.{EndsClosed}
 use Rattle.coin_store.proofs.Opens.{only_still, closed_in, reads_within, heads_within}

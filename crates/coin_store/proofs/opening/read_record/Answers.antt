@@ -1,5 +1,4 @@
-use Rattle.std.specs.Prelude.{◌≡◌, List, ℕ, None}
-use Rattle.std.proofs.Common.{◌∙◌, sym, ap, subst}
+use Rattle.std.proofs.Common.{subst}
 use Rattle.coin_store.specs.BatchReads.{IsNone}
 use Rattle.coin_store.specs.Rows.{IsBrokenBy}
 use Rattle.coin_store.proofs.opening.read_record.Goals as goal

@@ -1,4 +1,4 @@
-use Rattle.std.specs.Prelude.{◌≡◌, ℕ, List, Some, Ok}
+use Rattle.std.specs.Prelude.{ℕ, List, Some, Ok}
 use Rattle.std.proofs.Common.{◌∙◌, sym, ap, subst, inl, inr, refl}
 use Rattle.disk_model.specs.Disk.{Torn}
 use Rattle.disk_model.specs.Moments.{quiet_then}

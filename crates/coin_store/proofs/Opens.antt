@@ -19,20 +19,19 @@ use Rattle.base_types.specs.declared.fault.StoreFault.{StoreFault}
 use Rattle.base_types.specs.declared.fault.StoreFault.TheVariants.{NoMemory, DiskFailed, Damaged, Full, CacheFull}
 use Rattle.base_types.specs.declared.hash.OutPoint.{OutPoint}
 use Rattle.batch_log.specs.OpenLog.{OpenLog, Stands, places_of}
-use Rattle.batch_log.specs.Opening.{DamageIn as OfLog, OpenCause}
+use Rattle.batch_log.specs.Opening.{OpenCause}
 use Rattle.batch_log.specs.Records.{body, records, log, EndsClosed, StartsWith, HoldsLog}
 use Rattle.batch_log.specs.declared.places.Place.{Place}
-use Rattle.coin_store.specs.declared.kind.Kind.{Kind}
-use Rattle.coin_store.specs.declared.kind.Kind.TheVariants.{Base, Coins}
+use Rattle.coin_store.specs.declared.kind.Kind.TheVariants.{Coins}
 use Rattle.coin_store.specs.declared.marker.Marker.{Marker}
 use Rattle.coin_store.specs.declared.store.CoinStore.{CoinStore}
 use Rattle.coin_store.specs.declared.store.Marked.{Marked}
 use Rattle.coin_store.specs.Base.{BaseFits, base_texts, places_after_base, base_places, base_log, IsBase}
 use Rattle.coin_store.specs.Batches.{Row, Batch, value_text, row_text, rows_text, marker_text, batch_text, RowFits, ValueFits, BatchFits}
 use Rattle.coin_store.specs.Files.{log_reads}
-use Rattle.coin_store.specs.Opening.{HasBatches, HasBase, IsDamagedAt, LogDamage, BaseDamage}
+use Rattle.coin_store.specs.Opening.{HasBatches, LogDamage}
 use Rattle.coin_store.specs.Places.{CoinPlaces, put, place_of, places_after_rows, places_after_batch, places_after, live}
-use Rattle.coin_store.specs.Store.{Holds, DamagedAs, DamageIn, marks, texts, last_marker, marker_after}
+use Rattle.coin_store.specs.Store.{Holds, DamageIn, marks, texts, last_marker, marker_after}
 use Rattle.coin_store.proofs.Scanning.{as_many}
 use Rattle.coin_store.proofs.TwoFiles.{tiny_log, tiny_reads}
 
@@ -110,21 +109,6 @@ same_payloads a b r p q = cc
 pub base_none : (mask : List ℕ) (file : Option ℕ) (image : Image) (base : List (List Row)) → IsBase mask file image base → file ≡ None → base ≡ []
 base_none mask file image base b none = no_texts mask base (sym (same_payloads [] (base_texts mask base) (base_log None image) refl (ap (λ (f : Option ℕ). base_log f image) (sym none) ∙ b.is)))
 
--- what was opened of the base file
-pub base_opens : (contents : Option Image) (left : Image → Type 0) (opened : OpenLog) (mask : List ℕ) (file : ℕ) (m : Image) (payloads : List (List ℕ)) (old new : CoinPlaces) → old ≡ empty → opened.file ≡ file → log (m file) ≡ Ok payloads
-    → Stands contents left opened payloads → HasBase file mask payloads old new
-    → (base : List (List Row)) × IsBase mask (Some file) m base × (new ≡ base_places (Some file) mask base) × ((f : ℕ) → Some file ≡ Some f → HoldsLog contents left f (base_texts mask base))
-base_opens contents left opened mask file m payloads old new none named is stands h = (
-  h.base,
-  record { fits = h.fits; is = is ∙ ap (λ (p : List (List ℕ)). Ok p) h.is },
-  h.places ∙ ap (λ (p : CoinPlaces). places_after_base file mask 0 p h.base) none,
-  λ f this. subst (λ (g : ℕ). HoldsLog contents left g (base_texts mask h.base)) (named ∙ some_is file f this) (subst (λ (p : List (List ℕ)). HoldsLog contents left opened.file p) h.is stands.holds),
-)
-
-pub no_base : (mask : List ℕ) (m : Image) (contents : Option Image) (left : Image → Type 0) (old : CoinPlaces) → old ≡ empty
-    → (base : List (List Row)) × IsBase mask None m base × (old ≡ base_places None mask base) × ((f : ℕ) → None ≡ Some f → HoldsLog contents left f (base_texts mask base))
-no_base mask m contents left old none = ([], record { fits = tt; is = refl }, none, λ f this. absurd cc)
-
 -- ---- the store
 
 pub opens : (contents : Option Image) (left : Image → Type 0) (store : CoinStore) (image : Image) (base : List (List Row)) (payloads : List (List ℕ)) (first : CoinPlaces) → IsBase store.mask store.base image base
@@ -151,35 +135,6 @@ opens contents left store image base payloads first b is s stands h = (
 )
 
 -- ---- damage
-
-pub log_damage : (kind : Kind) (mask bytes : List ℕ) (fault : StoreFault) → OfLog bytes fault → LogDamage kind mask bytes fault
-log_damage kind mask bytes (Damaged file at) d = inl d
-log_damage kind mask bytes NoMemory d = tt
-log_damage kind mask bytes DiskFailed d = tt
-log_damage kind mask bytes (Full file) d = tt
-log_damage kind mask bytes CacheFull d = tt
-
-pub payload_damage : (kind : Kind) (mask bytes : List ℕ) (payloads : List (List ℕ)) → log bytes ≡ Ok payloads → (fault : StoreFault) → IsDamagedAt kind mask payloads fault → LogDamage kind mask bytes fault
-payload_damage kind mask bytes payloads is (Damaged file at) d = inr (payloads, is, d)
-payload_damage kind mask bytes payloads is NoMemory d = tt
-payload_damage kind mask bytes payloads is DiskFailed d = tt
-payload_damage kind mask bytes payloads is (Full file) d = tt
-payload_damage kind mask bytes payloads is CacheFull d = tt
-
--- in the base file
-pub base_damage : (mask : List ℕ) (file : ℕ) (m : Image) (before now : ℕ) (fault : StoreFault) → OpenCause file before now fault → LogDamage Base mask (m file) fault → BaseDamage mask (Some file) m fault
-base_damage mask file m before now (Damaged f at) cause d = (ap (λ (g : ℕ). Some g) (sym cause), subst (λ (g : ℕ). DamagedAs Base mask (m g) at) (sym cause) d)
-base_damage mask file m before now NoMemory cause d = tt
-base_damage mask file m before now DiskFailed cause d = tt
-base_damage mask file m before now (Full f) cause d = tt
-base_damage mask file m before now CacheFull cause d = tt
-
-pub first_damage : (mask : List ℕ) (base : Option ℕ) (coins : ℕ) (m : Image) (fault : StoreFault) → BaseDamage mask base m fault → DamageIn mask base coins m fault
-first_damage mask base coins m (Damaged f at) d = inl d
-first_damage mask base coins m NoMemory d = tt
-first_damage mask base coins m DiskFailed d = tt
-first_damage mask base coins m (Full f) d = tt
-first_damage mask base coins m CacheFull d = tt
 
 -- in the coin file, where the base has none
 pub coin_damage : (mask : List ℕ) (base_file : Option ℕ) (coins : ℕ) (m : Image) (bytes : List ℕ) (base : List (List Row)) → IsBase mask base_file m base → log bytes ≡ log (m coins) → (before now : ℕ) (fault : StoreFault)

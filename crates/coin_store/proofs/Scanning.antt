@@ -18,12 +18,13 @@ use Rattle.coin_store.specs.declared.marker.Marker.{Marker}
 use Rattle.coin_store.specs.declared.store.Marked.{Marked}
 use Rattle.coin_store.specs.Base.{BaseFits, base_of, base_texts, places_after_base}
 use Rattle.coin_store.specs.Batches.{Row, Batch, rows_text, batch_text, BatchFits}
-use Rattle.coin_store.specs.BatchReads.{HasBatch, HasBaseRows, HasPayload, IsNone}
+use Rattle.coin_store.specs.BatchReads.{HasBatch, HasBaseRows, HasPayload, IsNoPayload}
+use Rattle.coin_store.specs.Files.{WhereDamaged}
 use Rattle.coin_store.specs.Opening.{HasBatches, HasBase, HasPayloads, marked_at, IsDamagedAt}
 use Rattle.coin_store.specs.Places.{CoinPlaces, places_after_rows, places_after, places_after_batch}
 use Rattle.coin_store.specs.Reading.{batch_of}
 use Rattle.coin_store.specs.RowLaws.{some_is}
-use Rattle.coin_store.specs.Store.{marks, texts, FirstBroken, FirstBrokenAs, RecordCause, OnDamage}
+use Rattle.coin_store.specs.Store.{marks, texts, FirstBroken, FirstBrokenAs, RecordCause}
 use Rattle.coin_store.proofs.BatchSteps.{all_push}
 
 -- ---- the disk stays
@@ -211,12 +212,12 @@ module _ (file : ℕ) (mask : List ℕ) (payloads : List (List ℕ)) (old : Coin
   scan_more Coins i place mid new markers now (Some marker) h p b is = batch_more i place mid new markers now marker h p b is
 
   scan_broken : (kind : Kind) (i : ℕ) (place : Place) (mid : CoinPlaces) (markers : List Marked) → HasPayloads kind file mask (take i payloads) old mid markers → (p : PayloadAt payloads i place)
-      → IsNone kind mask p.payload → FirstBrokenAs kind mask payloads place.at
+      → IsNoPayload kind mask p.payload → FirstBrokenAs kind mask payloads place.at
   scan_broken Base i place mid markers h p broken = broken_at (rows_text mask) BaseFits (base_of mask) payloads i place h.base h.fits h.is p broken
   scan_broken Coins i place mid markers h p broken = broken_at (batch_text mask) BatchFits (batch_of mask) payloads i place h.batches h.fits h.is p broken
 
   pub scan_faulty : (kind : Kind) (i : ℕ) (place : Place) (mid : CoinPlaces) (markers : List Marked) → HasPayloads kind file mask (take i payloads) old mid markers → (p : PayloadAt payloads i place)
-      → (fault : StoreFault) (f before now : ℕ) → RecordCause f place.at before now fault → OnDamage (IsNone kind mask p.payload) fault → IsDamagedAt kind mask payloads fault
+      → (fault : StoreFault) (f before now : ℕ) → RecordCause f place.at before now fault → WhereDamaged (λ file at. IsNoPayload kind mask p.payload) fault → IsDamagedAt kind mask payloads fault
   scan_faulty kind i place mid markers h p (Damaged g gate) f before now cause damage = subst (λ (n : ℕ). FirstBrokenAs kind mask payloads n) (sym cause.1) (scan_broken kind i place mid markers h p damage)
   scan_faulty kind i place mid markers h p NoMemory f before now cause damage = tt
   scan_faulty kind i place mid markers h p DiskFailed f before now cause damage = tt

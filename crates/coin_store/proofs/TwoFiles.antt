@@ -4,14 +4,11 @@ use Rattle.std.proofs.Common.{cond, eqb, sym, ap, subst, ◌∙◌, arith, inl, 
 use Rattle.std.proofs.lemmas.Bool.{cases_Bool, cases_lt, eqb-true}
 use Rattle.std.proofs.lemmas.Bool.Decides.{nat_tests}
 use Rattle.std.proofs.lemmas.List.{take_all, take-take, drop-take}
-use Rattle.disk_model.specs.Disk.{Image, At, Torn, Leaves, Only, OthersKept}
+use Rattle.disk_model.specs.Disk.{Image, At, Torn, Leaves, Only}
 use Rattle.disk_model.specs.Moments.{IsSinceEarlier, leaves_then, leaves_wider, elsewhere}
-use Rattle.base_types.specs.declared.fault.StoreFault.{StoreFault}
-use Rattle.base_types.specs.declared.fault.StoreFault.TheVariants.{NoMemory, DiskFailed, Damaged, Full, CacheFull}
-use Rattle.batch_log.specs.Opening.{OpenCause}
 use Rattle.batch_log.specs.Reading.{ReadAtMost}
 use Rattle.batch_log.specs.Records.{SameLog, log, payloads_from}
-use Rattle.coin_store.specs.Files.{IsOneOf, IsBaseFile, InFiles, OthersKeptBut, FilesCause, log_reads, base_reads, store_reads, ReadWithin}
+use Rattle.coin_store.specs.Files.{IsOneOf, IsBaseFile, InFiles, OthersKeptBut, log_reads, base_reads, store_reads, ReadWithin}
 use Rattle.coin_store.specs.RowLaws.{some_is}
 
 -- ---- a file is this one, or another
@@ -122,30 +119,6 @@ file_leaves time left base Step file this still old new l = leaves_wider time le
 
 -- ---- what is told
 
-pub kept_but : (IsFile : ℕ → Type 0) (file : ℕ) → IsFile file → (old new : Option Image) → OthersKept file old new → OthersKeptBut IsFile old new
-kept_but IsFile file this None None kept = tt
-kept_but IsFile file this (Some m) (Some n) kept = λ f none. kept f (λ e. none (subst IsFile (sym e) this))
-kept_but IsFile file this None (Some n) kept = absurd kept
-kept_but IsFile file this (Some m) None kept = absurd kept
-
-pub kept_wider : (IsFile Wider : ℕ → Type 0) → ((f : ℕ) → IsFile f → Wider f) → (old new : Option Image) → OthersKeptBut IsFile old new → OthersKeptBut Wider old new
-kept_wider IsFile Wider wider None None kept = tt
-kept_wider IsFile Wider wider (Some m) (Some n) kept = λ f none. kept f (λ this. none (wider f this))
-kept_wider IsFile Wider wider None (Some n) kept = absurd kept
-kept_wider IsFile Wider wider (Some m) None kept = absurd kept
-
-pub kept_same : (IsFile : ℕ → Type 0) (told : Option Image) → OthersKeptBut IsFile told told
-kept_same IsFile None = tt
-kept_same IsFile (Some m) = λ f none. refl
-
-pub kept_then : (IsFile : ℕ → Type 0) (old mid new : Option Image) → OthersKeptBut IsFile old mid → OthersKeptBut IsFile mid new → OthersKeptBut IsFile old new
-kept_then IsFile None None None a b = tt
-kept_then IsFile (Some l) (Some m) (Some n) a b = λ f none. b f none ∙ a f none
-kept_then IsFile None None (Some n) a b = absurd b
-kept_then IsFile (Some l) (Some m) None a b = absurd b
-kept_then IsFile None (Some m) new a b = absurd a
-kept_then IsFile (Some l) None new a b = absurd a
-
 pub told_but : (IsFile : ℕ → Type 0) (old mid : Option Image) (m : Image) → OthersKeptBut IsFile old mid → old ≡ Some m → (n : Image) × (mid ≡ Some n) × ((f : ℕ) → (IsFile f → ⊥) → n f ≡ m f)
 told_but IsFile None None m kept is = absurd cc
 told_but IsFile None (Some n) m kept is = absurd kept
@@ -208,22 +181,6 @@ between time left contents reads_as base old mid m told kept long tiny =
       same = alike base (contents old) (contents mid) m t.0 told t.1 t.2 long (λ f this few. tiny f this few t.0 (reads_as mid t.0 t.1));
     }
 
--- ---- faults
-
-pub file_cause : (IsFile : ℕ → Type 0) (file : ℕ) → IsFile file → (before now : ℕ) (fault : StoreFault) → OpenCause file before now fault → FilesCause IsFile before now fault
-file_cause IsFile file this before now NoMemory c = tt
-file_cause IsFile file this before now DiskFailed c = c
-file_cause IsFile file this before now (Damaged f at) c = subst IsFile (sym c) this
-file_cause IsFile file this before now (Full f) c = c
-file_cause IsFile file this before now CacheFull c = c
-
-pub cause_wider : (IsFile Wider : ℕ → Type 0) → ((f : ℕ) → IsFile f → Wider f) → (before now : ℕ) (fault : StoreFault) → FilesCause IsFile before now fault → FilesCause Wider before now fault
-cause_wider IsFile Wider wider before now NoMemory c = tt
-cause_wider IsFile Wider wider before now DiskFailed c = c
-cause_wider IsFile Wider wider before now (Damaged f at) c = wider f c
-cause_wider IsFile Wider wider before now (Full f) c = c
-cause_wider IsFile Wider wider before now CacheFull c = c
-
 -- ---- what is read
 
 some_reads : (bytes : List ℕ) → 0 < log_reads bytes
@@ -231,10 +188,6 @@ some_reads bytes = some (nat_le (length bytes) 1) where
   some : (b : Bool) → 0 < cond b 5 (length bytes + 5)
   some true = omega arith
   some false = omega arith
-
-pub reads_none : (told : Option (ℕ → ℕ)) → ReadWithin (λ f. 0) told told
-reads_none None = tt
-reads_none (Some r) = λ f. (omega arith, λ e. refl)
 
 -- of one file
 pub reads_one : (file : ℕ) (m : Image) (old new : Option (ℕ → ℕ)) → ReadAtMost file (log_reads (m file)) old new → ReadWithin (base_reads (Some file) m) old new

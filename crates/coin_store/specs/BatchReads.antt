@@ -49,9 +49,9 @@ HasPayload Base file gate mask payload old new marker = HasBaseRows file gate ma
 HasPayload Coins file gate mask payload old new marker = IsSomeAnd marker (HasBatch file gate mask payload old new)
 
 -- the bytes are no payload of this kind
-abbrev pub IsNone : Kind → List ℕ → List ℕ → Type 0
-IsNone Base mask payload = base_of mask payload ≡ None
-IsNone Coins mask payload = batch_of mask payload ≡ None
+abbrev pub IsNoPayload : Kind → List ℕ → List ℕ → Type 0
+IsNoPayload Base mask payload = base_of mask payload ≡ None
+IsNoPayload Coins mask payload = batch_of mask payload ≡ None
 
 -- the bytes, which stand at an offset of the payload, are rows, the places are those after them, and `coins` tells whether
 -- each has a coin

@@ -28,6 +28,14 @@ FilesCause IsFile before now (Damaged file at) = IsFile file
 FilesCause IsFile before now (Full file) = ⊥
 FilesCause IsFile before now CacheFull = ⊥
 
+-- a fact of the file and the gate, where damage is answered
+abbrev pub WhereDamaged : (ℕ → ℕ → Type 0) → StoreFault → Type 0
+WhereDamaged P (Damaged file at) = P file at
+WhereDamaged P NoMemory = ⊤
+WhereDamaged P DiskFailed = ⊤
+WhereDamaged P (Full file) = ⊤
+WhereDamaged P CacheFull = ⊤
+
 -- ---- what is read
 
 -- of a log: five bytes more than it has, or five of one that has at most one byte
@@ -38,10 +46,11 @@ abbrev pub is_base_file : Option ℕ → ℕ → Bool
 is_base_file None f = false
 is_base_file (Some file) f = f == file
 
--- of a file, as the base file and as the coin file
+-- of a file that may be the base file
 abbrev pub base_reads : Option ℕ → Image → ℕ → ℕ
 base_reads base_file m f = if is_base_file base_file f then log_reads (m f) else 0
 
+-- and may be the coin file
 abbrev pub store_reads : Option ℕ → ℕ → Image → ℕ → ℕ
 store_reads base_file coin_file m f = base_reads base_file m f + (if f == coin_file then log_reads (m f) else 0)
 

@@ -1,15 +1,15 @@
 -- What is read of the logs of a store as it is opened.
-use Rattle.std.specs.Prelude.{⊤, ◌≡◌, ℕ, List, [], ◌∷◌, Option, Some, None}
+use Rattle.std.specs.Prelude.{◌≡◌, ℕ, List, [], ◌∷◌, Option, Some, None}
 use Rattle.std.specs.List.{AllByRecursion}
 use Rattle.disk_model.specs.Disk.{Image}
 use Rattle.base_types.specs.declared.fault.StoreFault.{StoreFault}
-use Rattle.base_types.specs.declared.fault.StoreFault.TheVariants.{NoMemory, DiskFailed, Damaged, Full, CacheFull}
 use Rattle.coin_store.specs.declared.kind.Kind.{Kind}
 use Rattle.coin_store.specs.declared.kind.Kind.TheVariants.{Base, Coins}
 use Rattle.coin_store.specs.declared.marker.Marker.{Marker}
 use Rattle.coin_store.specs.declared.store.Marked.{Marked}
 use Rattle.coin_store.specs.Base.{BaseFits, base_texts, places_after_base}
 use Rattle.coin_store.specs.Batches.{Row, Batch, BatchFits}
+use Rattle.coin_store.specs.Files.{WhereDamaged}
 use Rattle.coin_store.specs.Places.{CoinPlaces, places_after}
 use Rattle.coin_store.specs.Store.{marks, texts, FirstBrokenAs, DamagedAs}
 
@@ -40,24 +40,12 @@ marked_at (Some marker) at = record { marker = marker; at = at } ∷ []
 
 -- where damage is answered, the first of the payloads that isn't of this kind has that gate
 abbrev pub IsDamagedAt : Kind → List ℕ → List (List ℕ) → StoreFault → Type 0
-IsDamagedAt kind mask payloads (Damaged file at) = FirstBrokenAs kind mask payloads at
-IsDamagedAt kind mask payloads NoMemory = ⊤
-IsDamagedAt kind mask payloads DiskFailed = ⊤
-IsDamagedAt kind mask payloads (Full file) = ⊤
-IsDamagedAt kind mask payloads CacheFull = ⊤
+IsDamagedAt kind mask payloads fault = WhereDamaged (λ file at. FirstBrokenAs kind mask payloads at) fault
 
 -- where damage is answered, it is of these bytes
 abbrev pub LogDamage : Kind → List ℕ → List ℕ → StoreFault → Type 0
-LogDamage kind mask bytes (Damaged file at) = DamagedAs kind mask bytes at
-LogDamage kind mask bytes NoMemory = ⊤
-LogDamage kind mask bytes DiskFailed = ⊤
-LogDamage kind mask bytes (Full file) = ⊤
-LogDamage kind mask bytes CacheFull = ⊤
+LogDamage kind mask bytes fault = WhereDamaged (λ file at. DamagedAs kind mask bytes at) fault
 
 -- where damage is answered, it is of the base file
 abbrev pub BaseDamage : List ℕ → Option ℕ → Image → StoreFault → Type 0
-BaseDamage mask base_file m (Damaged file at) = (base_file ≡ Some file) × DamagedAs Base mask (m file) at
-BaseDamage mask base_file m NoMemory = ⊤
-BaseDamage mask base_file m DiskFailed = ⊤
-BaseDamage mask base_file m (Full file) = ⊤
-BaseDamage mask base_file m CacheFull = ⊤
+BaseDamage mask base_file m fault = WhereDamaged (λ file at. (base_file ≡ Some file) × DamagedAs Base mask (m file) at) fault

@@ -17,6 +17,7 @@ use Rattle.coin_store.specs.declared.store.CoinStore.{CoinStore}
 use Rattle.coin_store.specs.declared.store.Marked.{Marked}
 use Rattle.coin_store.specs.Base.{BaseFits, base_of, base_texts, base_places, IsBase}
 use Rattle.coin_store.specs.Batches.{Row, Batch, rows_text, batch_text, BatchFits}
+use Rattle.coin_store.specs.Files.{WhereDamaged}
 use Rattle.coin_store.specs.Places.{places_after, live}
 use Rattle.coin_store.specs.Reading.{batch_of}
 
@@ -85,13 +86,10 @@ DamagedAs kind mask bytes at = (log bytes ≡ Err at) ⊎ ((payloads : List (Lis
 
 -- where damage is answered, it is that of the base file, or that of the coin file where the base file has none
 abbrev pub DamageIn : List ℕ → Option ℕ → ℕ → Image → StoreFault → Type 0
-DamageIn mask base_file coin_file m (Damaged file at) =
-    ((base_file ≡ Some file) × DamagedAs Base mask (m file) at)
-    ⊎ ((file ≡ coin_file) × ((base : List (List Row)) × IsBase mask base_file m base) × DamagedAs Coins mask (m coin_file) at)
-DamageIn mask base_file coin_file m NoMemory = ⊤
-DamageIn mask base_file coin_file m DiskFailed = ⊤
-DamageIn mask base_file coin_file m (Full file) = ⊤
-DamageIn mask base_file coin_file m CacheFull = ⊤
+DamageIn mask base_file coin_file m fault = WhereDamaged
+    (λ file at. ((base_file ≡ Some file) × DamagedAs Base mask (m file) at)
+    ⊎ ((file ≡ coin_file) × ((base : List (List Row)) × IsBase mask base_file m base) × DamagedAs Coins mask (m coin_file) at))
+    fault
 
 -- why a record may not be read
 abbrev pub RecordCause : ℕ → ℕ → ℕ → ℕ → StoreFault → Type 0
@@ -100,11 +98,3 @@ RecordCause file at before now DiskFailed = Rose before now
 RecordCause file at before now (Damaged f gate) = (f ≡ file) × (gate ≡ at)
 RecordCause file at before now (Full f) = ⊥
 RecordCause file at before now CacheFull = ⊥
-
--- where damage is answered, the payload is no batch
-abbrev pub OnDamage : Type 0 → StoreFault → Type 0
-OnDamage P (Damaged file at) = P
-OnDamage P NoMemory = ⊤
-OnDamage P DiskFailed = ⊤
-OnDamage P (Full file) = ⊤
-OnDamage P CacheFull = ⊤

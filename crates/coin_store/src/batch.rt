@@ -4,7 +4,7 @@ ghost use Rattle.std.specs.Prelude.{◌≡◌, ℕ, ◌+◌, ◌^◌, ◌<◌, �
 ghost use Rattle.base_types.specs.declared.coin.Coin.{Coin};
 ghost use Rattle.coin_store.specs.Batches.{Row};
 ghost use Rattle.coin_store.specs.Base.{base_of};
-ghost use Rattle.coin_store.specs.BatchReads.{IsHash, IsMarker, HasRows, HasBatch, HasBaseRows, HasPayload, IsNone, NotesRow};
+ghost use Rattle.coin_store.specs.BatchReads.{IsHash, IsMarker, HasRows, HasBatch, HasBaseRows, HasPayload, IsNoPayload, NotesRow};
 ghost use Rattle.coin_store.specs.Places.{CoinPlaces, places_after_rows};
 ghost use Rattle.coin_store.specs.Reading.{rows_of, batch_of};
 ghost use Rattle.coin_store.specs.Rows.{IsBrokenBy};
@@ -178,7 +178,7 @@ pub fn read_payload(
     requires fits { gate.at + (5 + length payload.old) < 2 ^ 64 }
     requires len { length payload.old < 2 ^ 32 }
     ensures ok { IfOk result (HasPayload kind gate.file gate.at mask.now payload.old index.old index.new) }
-    ensures broken { IfErr result (IsBrokenBy (IsNone kind mask.now payload.old)) }
+    ensures broken { IfErr result (IsBrokenBy (IsNoPayload kind mask.now payload.old)) }
 {
     match kind {
         Kind::Base => match read_base(alloc, payload, gate, mask, index) {

@@ -9,11 +9,11 @@ ghost use Rattle.batch_log.specs.declared.places.Place.{Place};
 ghost use Rattle.batch_log.specs.Opening.{OpenCause};
 ghost use Rattle.batch_log.specs.Reading.{ReadAtMost};
 ghost use Rattle.coin_store.specs.Base.{IsBase, base_texts, base_places};
-ghost use Rattle.coin_store.specs.BatchReads.{HasPayload, IsNone};
+ghost use Rattle.coin_store.specs.BatchReads.{HasPayload, IsNoPayload};
 ghost use Rattle.coin_store.specs.Batches.{Row};
-ghost use Rattle.coin_store.specs.Files.{IsBaseFile, InFiles, OthersKeptBut, FilesCause, log_reads, base_reads, ReadWithin};
+ghost use Rattle.coin_store.specs.Files.{IsBaseFile, InFiles, OthersKeptBut, FilesCause, WhereDamaged, log_reads, base_reads, ReadWithin};
 ghost use Rattle.coin_store.specs.Opening.{HasPayloads, marked_at, IsDamagedAt, LogDamage, BaseDamage};
-ghost use Rattle.coin_store.specs.Store.{RecordCause, OnDamage};
+ghost use Rattle.coin_store.specs.Store.{RecordCause};
 ghost use Rattle.base_types.specs.declared.fault.StoreFault.TheVariants.{NoMemory};
 
 use crate::batch::{Gate, read_payload};
@@ -46,7 +46,7 @@ fn read_record<D: Disk>(
     requires short { place.at + (5 + place.len) < 2 ^ 64 }
     ensures ok { (payloads : List (List ℕ)) (i : ℕ) (bytes : List ℕ) → Stands (D.contents disk.old) (D.left_since disk.old (D.time disk.old)) log.now payloads
         → slice_get log.now.places i ≡ Some place → slice_get payloads i ≡ Some bytes
-        → IfOk result (HasPayload kind log.now.file place.at mask.now bytes index.old index.new) × IfErr result (OnDamage (IsNone kind mask.now bytes)) }
+        → IfOk result (HasPayload kind log.now.file place.at mask.now bytes index.old index.new) × IfErr result (WhereDamaged (λ file at. IsNoPayload kind mask.now bytes)) }
     ensures cause { IfErr result (RecordCause log.now.file place.at (D.faults disk.old) (D.faults disk.new)) }
     ensures faults { D.faults disk.old ≤ D.faults disk.new }
     ensures contents { D.contents disk.new ≡ D.contents disk.old }

@@ -1,5 +1,7 @@
 //! Block files: making one, and the time of reading its blocks beside that of hashing them.
 
+ghost use Rattle.std.specs.Prelude.{◌≡◌, ◌++◌, drop, IfSome};
+
 use anyhow::{Result, bail};
 use base_types::{Hash32, OutPoint, Script, TxOut, hash_twice, put_u32};
 use block_codec::{Block, Header, Inputs, Outputs, Stack, Tx, TxIn, Txs, read_block, write_block};
@@ -78,7 +80,9 @@ pub fn make(rt: &HostRuntime, name: &str, count: u32) -> Result<()> {
 }
 
 // The bytes of the first frame's block, and what follows it.
-fn next_frame(bytes: &[u8]) -> Option<(&[u8], &[u8])> {
+fn next_frame(bytes: &[u8]) -> Option<(&[u8], &[u8])>
+    ensures { IfSome result (λ parts. drop 8 bytes.now ≡ parts.0.now ++ parts.1.now) }
+{
     if bytes.len() < 8 {
         return None;
     }

@@ -1,5 +1,7 @@
 //! Folding: the time of a `fold` of generated blocks beside that of their double hashes alone.
 
+ghost use Rattle.std.specs.Prelude.{◌≡◌, vec_len, IfOk};
+
 use anyhow::{Result, bail};
 use base_types::{Limits, Salt, Words};
 use block_codec::{Block, block_hash, txid};
@@ -22,7 +24,9 @@ const LIMITS: Limits = Limits {
 };
 
 // The blocks of the file, so many, read once so that hashing them can be measured alone.
-fn blocks(alloc: Global, host: &mut MemHost, count: u32) -> Result<Vec<Block>> {
+fn blocks(alloc: Global, host: &mut MemHost, count: u32) -> Result<Vec<Block>>
+    ensures { IfOk result (λ blocks. vec_len blocks ≡ count) }
+{
     if host.open_in(NAME).is_err() {
         bail!("no file");
     }

@@ -1,5 +1,7 @@
 //! Headers: the time of accepting a chain of them beside that of hashing them.
 
+ghost use Rattle.std.specs.Prelude.{◌≡◌, vec_len, IfOk};
+
 use anyhow::{Result, bail};
 use base_types::{Hash32, Limits, Rules};
 use block_codec::{Header, block_hash};
@@ -48,7 +50,9 @@ fn mined(prev: Hash32, time: u32) -> Header {
 }
 
 // A chain of so many headers above genesis.
-fn chain(alloc: Global, genesis: Hash32, count: u32) -> Result<Vec<Header>> {
+fn chain(alloc: Global, genesis: Hash32, count: u32) -> Result<Vec<Header>>
+    ensures { IfOk result (λ headers. vec_len headers ≡ count) }
+{
     let mut headers = Vec::new(alloc);
     let mut prev = genesis;
     let mut time = GENESIS_TIME;

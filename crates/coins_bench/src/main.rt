@@ -11,6 +11,8 @@ mod shelf;
 mod snapshot;
 mod words;
 
+ghost use Rattle.std.specs.Prelude.{◌≡◌, Some, IsSome, IsOk, IfOk};
+
 use anyhow::{Result, bail};
 use std::env;
 
@@ -26,7 +28,10 @@ fn count_of(word: Option<String>) -> Result<u32> {
 }
 
 // The word as it is.
-fn name_of(word: Option<String>) -> Result<String> {
+fn name_of(word: Option<String>) -> Result<String>
+    ensures some { IsSome word → IsOk result }
+    ensures same { IfOk result (λ name. word ≡ Some name) }
+{
     match word {
         Some(text) => Ok(text),
         None => bail!("{USAGE}"),

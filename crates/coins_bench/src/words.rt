@@ -1,6 +1,6 @@
 //! An outpoint as a few words, which a hash map hashes faster than 36 bytes.
 
-ghost use Rattle.std.specs.Prelude.{◌+◌, ◌≤◌, ◌++◌};
+ghost use Rattle.std.specs.Prelude.{◌≡◌, ◌+◌, ◌≤◌, ◌++◌};
 ghost use Rattle.std.proofs.Common.{rules};
 ghost use Rattle.std.specs.Hash as fed;
 ghost use Rattle.std.specs.Cmp.Rules.{hashing};
@@ -48,7 +48,9 @@ fn word(bytes: &[u8; 32], at: usize) -> u64
 
 impl Words {
     /// The words of an outpoint.
-    pub fn of(key: &OutPoint, salt: &Salt) -> Words {
+    pub fn of(key: &OutPoint, salt: &Salt) -> Words
+        ensures { result.index ≡ key.now.index }
+    {
         let bytes = &key.txid.bytes;
         Words {
             first: word(bytes, 0) ^ salt.a,

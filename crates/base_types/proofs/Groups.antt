@@ -3,7 +3,7 @@ use Rattle.std.proofs.Common.{◌≡◌, ℕ, zero, suc, ◌+◌, ◌-◌, ◌*�
 use Rattle.std.specs.Prelude.{⊤, Result, Ok, Err, OnOk, is_ok, if◌then◌else◌}
 use Rattle.std.proofs.lemmas.List.{take_all, length-drop}
 use Rattle.base_types.specs.Bytes.{marked, varint}
-use Rattle.base_types.specs.Fields.{marked_more, varint_last}
+use Rattle.base_types.proofs.Fields.{marked_more, varint_last}
 
 -- the numbers whose groups fit into so many places
 abbrev pub room : ℕ → ℕ

@@ -1,10 +1,10 @@
 pub mod Bytes
 pub mod Codec
 pub mod Coins
-pub mod Fields
 pub mod Flushes
 pub mod Keys
-pub mod OrderedMaps
+pub mod Obfuscation
+pub mod Parameters
 pub mod Printed
 pub mod Reading
 pub mod Refusals

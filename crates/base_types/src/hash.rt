@@ -2,9 +2,11 @@
 
 ghost use Rattle.std.specs.Prelude.{◌≡◌};
 ghost use Rattle.base_types.specs.Bytes.{hash_twice as twice};
+ghost use Rattle.base_types.specs.Keys.{outpoint_cmp};
 ghost use Rattle.base_types.specs.Printed.{printed as printed_text};
 
 use sha2::{Digest, Sha256};
+use std::cmp::Ordering;
 
 /// A hash of 32 bytes, ordered by its bytes. People see the bytes in reverse order (`printed`).
 #[derive(Clone, Copy, Debug, PartialEq, Eq, PartialOrd, Ord, Hash)]
@@ -28,6 +30,13 @@ pub fn hash_twice(bytes: &[u8]) -> Hash32
     Hash32 {
         bytes: Sha256::digest(once.as_slice()),
     }
+}
+
+/// The order in which maps keep outpoints: by the bytes of the hash, and then by the number. It is the order of `Ord`.
+pub fn outpoint_order(left: &OutPoint, right: &OutPoint) -> Ordering
+    ensures { result ≡ outpoint_cmp left.now right.now }
+{
+    left.cmp(right)
 }
 
 impl Hash32 {

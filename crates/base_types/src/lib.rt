@@ -8,7 +8,10 @@ mod fault;
 mod flushes;
 mod hash;
 mod keys;
+mod list;
 mod numbers;
+mod obfuscation;
+mod parameters;
 mod program;
 mod refused;
 mod script;
@@ -20,8 +23,14 @@ pub use coin::{Coin, TxOut};
 pub use cursor::{Cursor, ReadError};
 pub use fault::StoreFault;
 pub use flushes::{Chain, Flushed, Flushes, Why};
-pub use hash::{Hash32, OutPoint, hash_twice};
+pub use hash::{Hash32, OutPoint, hash_twice, outpoint_order};
 pub use keys::Keys;
+pub use list::List;
+pub use obfuscation::obfuscate;
+pub use parameters::{
+    COINBASE_MATURITY, MAX_MONEY, MAX_SCRIPT_SIZE, MAX_SIZE, MESSAGE_START, TARGET, TARGET_BITS,
+    subsidy,
+};
 pub use program::{Limits, Rules, Salt, Status, Words};
 pub use refused::{BodyRefused, CoinError, CoinRefused, HeaderRefused};
 pub use script::Script;

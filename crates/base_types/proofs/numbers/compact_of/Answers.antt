@@ -1,5 +1,5 @@
-use Rattle.base_types.specs.Codec.{IsBytes-slice, spelled}
-use Rattle.base_types.specs.Fields.{compact_field}
+use Rattle.base_types.proofs.Codecs.{IsBytes-slice, spelled}
+use Rattle.base_types.proofs.Fields.{compact_field}
 use Rattle.base_types.proofs.numbers.compact_of.Goals as goal
 
 pub returns-clause-spelled : goal.returns-clause-spelled

@@ -1,5 +1,5 @@
-use Rattle.base_types.specs.Codec.{IsBytes-slice, spelled}
-use Rattle.base_types.specs.Fields.{number_field, wide32}
+use Rattle.base_types.proofs.Codecs.{IsBytes-slice, spelled}
+use Rattle.base_types.proofs.Fields.{number_field, wide32}
 use Rattle.base_types.proofs.numbers.u32_of.Goals as goal
 
 pub returns-then-bytes-lt4-clause-spelled : goal.returns-then-bytes-lt4-clause-spelled

@@ -1,5 +1,5 @@
-use Rattle.base_types.specs.Codec.{IsBytes-slice, spelled}
-use Rattle.base_types.specs.Fields.{varint_field}
+use Rattle.base_types.proofs.Codecs.{IsBytes-slice, spelled}
+use Rattle.base_types.proofs.Fields.{varint_field}
 use Rattle.base_types.proofs.numbers.varint_of.Goals as goal
 
 pub returns-clause-spelled : goal.returns-clause-spelled

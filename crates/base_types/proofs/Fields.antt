@@ -9,7 +9,8 @@ use Rattle.base_types.specs.declared.cursor.ReadError.{ReadError}
 use Rattle.base_types.specs.declared.cursor.ReadError.TheVariants.{Short, LongSpelling, TooLarge}
 use Rattle.base_types.specs.Bytes.{number_text, compact, marked, varint}
 use Rattle.base_types.specs.Reading.{byte_at, bytes_at, number_at, long_at, compact_at, length_at, groups_at, varint_at}
-use Rattle.base_types.specs.Codec.{IsBytes, IsBytes-drop, IsBytes-take, IsBytes-rest, Takes, IsField, bind_ok, guard_ok, ok_is, chosen}
+use Rattle.base_types.specs.Codec.{IsBytes}
+use Rattle.base_types.proofs.Codecs.{IsBytes-drop, IsBytes-take, IsBytes-rest, Takes, IsField, bind_ok, guard_ok, ok_is, chosen}
 
 -- ---- numbers
 

@@ -9,13 +9,14 @@ use Rattle.std.proofs.Common.{subst, length-append}
 use Rattle.std.proofs.lemmas.List.Elements.{All-push}
 use Rattle.batch_log.specs.Records.{StartsWith}
 use Rattle.batch_log.specs.OpenLog.{AllBefore}
-use Rattle.batch_log.specs.Reading.{ReadAtMost, read_then, read_wider}
+use Rattle.batch_log.specs.Reading.{ReadAtMost}
+use Rattle.batch_log.proofs.ReadLaws.{read_then, read_wider}
 use Rattle.batch_log.specs.Opening.{IsReadTo, IsWholly}
 use Rattle.batch_log.specs.OpenLog.{places_of}
 use Rattle.batch_log.specs.declared.places.Place.{Place}
 use Rattle.batch_log.proofs.GateWrites.{records-push, AllFit-push}
 use Rattle.batch_log.proofs.OneMore.{length-records-push, places-push}
-use Rattle.batch_log.specs.RecordLaws.{log_damaged}
+use Rattle.batch_log.proofs.RecordLaws.{log_damaged}
 
 pub starts_none : (bytes : List ℕ) → 0 < length bytes → IsReadTo bytes [] 0
 starts_none bytes more = record { payloads = []; fit = tt; places = refl; at = refl; front = refl; within = more }

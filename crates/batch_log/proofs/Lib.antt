@@ -1,8 +1,12 @@
+pub mod CallerLemmas
 pub mod GateByGate
 pub mod GateWrites
 pub mod Heads
 pub mod OneMore
 pub mod Opens
+pub mod OtherLogs
+pub mod PayloadBytes
+pub mod ReadLaws
+pub mod RecordLaws
 pub mod RecordWrites
 pub mod Tears
-pub mod PayloadBytes

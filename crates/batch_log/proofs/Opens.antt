@@ -4,10 +4,10 @@ use Rattle.std.specs.Prelude.{Option, Some, Result, Ok, nat_le, true, replicate}
 use Rattle.std.proofs.lemmas.Bool.Decides.{nat_tests}
 use Rattle.std.proofs.lemmas.List.{drop_all}
 use Rattle.disk_model.specs.Disk.{Image, At, Torn, Stays, Moves, Quiet, Only, written}
-use Rattle.disk_model.specs.Moments.{IsSinceEarlier, SoFar, so_far_begins, so_far_steps, so_far_stays, so_far_durable}
+use Rattle.disk_model.proofs.Moments.{IsSinceEarlier, SoFar, so_far_begins, so_far_steps, so_far_stays, so_far_durable}
 use Rattle.batch_log.specs.OpenLog.{OpenLog, Stands}
 use Rattle.batch_log.specs.Opening.{IsWholly}
-use Rattle.batch_log.specs.RecordLaws.{log_closed}
+use Rattle.batch_log.proofs.RecordLaws.{log_closed}
 use Rattle.batch_log.specs.declared.places.Place.{Place}
 use Rattle.batch_log.specs.Records.{EndsClosed, HoldsLog, log, payloads_from, SameLog}
 

@@ -2,7 +2,7 @@
 use Rattle.std.proofs.Common.{◌≡◌, inl, ℕ, ◌+◌, ◌<◌, ◌≤◌, ◌^◌, arith, List, [], ◌∷◌, ◌++◌, length, sym, ◌∙◌, subst}
 use Rattle.std.specs.Prelude.{Option, Some, Result}
 use Rattle.disk_model.specs.Disk.{Image, At, Torn, Stays, Moves, Only, written}
-use Rattle.disk_model.specs.Moments.{SoFar, so_far_begins, so_far_steps, so_far_stays, so_far_durable}
+use Rattle.disk_model.proofs.Moments.{SoFar, so_far_begins, so_far_steps, so_far_stays, so_far_durable}
 use Rattle.batch_log.specs.Records.{body, records, EndsClosed, WithOrWithout, HoldsLog}
 use Rattle.batch_log.proofs.Tears.{torn_none, torn_then}
 use Rattle.batch_log.proofs.GateWrites.{Staged, torn_behind, written_behind, torn_gate, written_gate}

@@ -25,6 +25,11 @@ places_of at (payload ∷ payloads) = record { at = at; len = length payload } �
 abbrev pub AllBefore : ℕ → List Place → Type 0
 AllBefore end places = All (λ (p : Place). p.at + (5 + p.len) ≤ end) places
 
+-- the log knows these payloads, whatever its file has
+pub record Knows (log : OpenLog) (payloads : List (List ℕ)) : Type 0 where
+  pub end : log.end ≡ length (records payloads)
+  pub places : log.places ≡ places_of 0 payloads
+
 -- the log knows these payloads, and they are its file's as it reads and after each crash
 pub record Stands (contents : Option Image) (left : Image → Type 0) (log : OpenLog) (payloads : List (List ℕ)) : Type 0 where
   pub holds : HoldsLog contents left log.file payloads
@@ -48,6 +53,11 @@ pub record Unchanged (old new : OpenLog) : Type 0 where
 -- with a closing gate after so many bytes more, the file would be longer than its limit
 abbrev pub IsOver : OpenLog → ℕ → Type 0
 IsOver log growth = log.limit < log.end + growth + 1
+
+-- so many payloads whose records have so many bytes together fit into the file; framed by the caller, they take no memory
+pub record HasRoomInPlace (log : OpenLog) (payloads total : ℕ) : Type 0 where
+  pub listed : payloads ≤ log.spare
+  pub fits : log.end + total + 1 ≤ log.limit
 
 -- so many payloads whose records have so many bytes together fit into the file, and take no memory
 pub record HasRoom (log : OpenLog) (payloads total : ℕ) : Type 0 where

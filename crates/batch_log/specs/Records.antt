@@ -1,11 +1,15 @@
 -- A log's bytes: records, each with an open gate, and then a closed gate.
-use Rattle.std.specs.Prelude.{◌≡◌, ◌≢◌, ◌⊎◌, ⊤, ℕ, ◌+◌, ◌<◌, ◌^◌, ◌==◌, nat_lt, nat_le, List, [], ◌∷◌, ◌++◌, length, take, drop, if◌then◌else◌, Option, Some, Result, Ok, Err, zero, suc}
+use Rattle.std.specs.Prelude.{◌≡◌, ◌≢◌, ◌⊎◌, ⊤, ℕ, ◌+◌, ◌-◌, ◌<◌, ◌^◌, ◌==◌, nat_lt, nat_le, List, [], ◌∷◌, ◌++◌, length, take, drop, if◌then◌else◌, Option, Some, Result, Ok, Err, zero, suc}
 use Rattle.std.specs.Int.{to_le_bytes, from_le_bytes, w32}
 use Rattle.disk_model.specs.Disk.{Image}
 
 -- what stands behind the gate of a payload
 abbrev pub body : List ℕ → List ℕ
 body payload = to_le_bytes w32 (length payload) ++ payload
+
+-- the payload in a buffer that has room before it for its length, four bytes, and room behind it for the next gate
+abbrev pub payload_in : List ℕ → List ℕ
+payload_in framed = take (length framed - 5) (drop 4 framed)
 
 -- the records of these payloads
 abbrev pub records : List (List ℕ) → List ℕ

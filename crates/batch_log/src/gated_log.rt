@@ -4,11 +4,11 @@ ghost use Rattle.std.specs.Prelude.{◌≡◌, ◌≢◌, ◌⊎◌, ◌+◌, �
 ghost use Rattle.disk_model.specs.Disk.{At, Torn, Leaves, Quiet, Only, Told, OthersKept, changed_at, written};
 ghost use Rattle.base_types.specs.declared.fault.StoreFault.TheVariants.{DiskFailed as Failed};
 ghost use Rattle.batch_log.specs.declared.places.Place.{Place};
-ghost use Rattle.batch_log.specs.Records.{body, log, WithOrWithout, SameLog, StartsWith};
+ghost use Rattle.batch_log.specs.Records.{body, payload_in, log, WithOrWithout, SameLog, StartsWith};
 
 use crate::Place;
 use crate::opening::{begin, find_places};
-use crate::writing::{spell, write_record};
+use crate::records::{frame, payload_len, spell, write_record};
 use base_types::{Limits, StoreFault};
 use disk_model::{Disk, DiskFailed};
 use std::alloc::Global;
@@ -46,7 +46,7 @@ fn fits(limit: u64, end: u64, growth: u64) -> bool
 }
 
 impl Log {
-    ghost use Rattle.batch_log.specs.OpenLog.{OpenLog, Stands, Unchanged, SameFile, IsOver, HasRoom, AppendCause, RoomCause, AllBefore};
+    ghost use Rattle.batch_log.specs.OpenLog.{OpenLog, Stands, Knows, Unchanged, SameFile, IsOver, HasRoom, HasRoomInPlace, AppendCause, RoomCause, AllBefore};
     ghost use Rattle.batch_log.specs.Opening.{OpenCause, DamageIn};
     ghost use Rattle.batch_log.specs.Reading.{ReadAtMost, ReadCause, OnShort};
 
@@ -118,6 +118,9 @@ impl Log {
         ensures part { Leaves D.time D.left_since (At self.old.file (Torn self.old.end (6 + length payload.now))) disk.old disk.new }
         ensures others { OthersKept self.old.file (D.contents disk.old) (D.contents disk.new) }
         ensures read { D.bytes_read disk.new ≡ D.bytes_read disk.old }
+
+        // What the log knows doesn't hang on what the file has.
+        ensures knows { (payloads : List (List ℕ)) → Knows self.old payloads → OnOk result (Knows self.new (payloads ++ payload.now ∷ [])) }
         ensures listed { OnOk result (self.new.places ≡ self.old.places ++ record { at = self.old.end; len = length payload.now } ∷ []) }
         ensures end { OnOk result (self.new.end ≡ self.old.end + (5 + length payload.now)) }
         ensures same { SameFile self.old self.new }
@@ -152,6 +155,70 @@ impl Log {
         Ok(())
     }
 
+    /// Adds a payload at the end, as `append` does, with no second copy of it: the buffer has four bytes of room before the
+    /// payload, for its length, and one behind it, for the next gate. These five bytes are written over, and the payload
+    /// stays in its place.
+    pub fn append_in_place<D: Disk>(
+        &mut self,
+        disk: &mut D,
+        framed: &mut [u8],
+    ) -> Result<(), StoreFault>
+        requires { 5 ≤ length framed.old }
+        ensures ok { (payloads : List (List ℕ)) → Stands (D.contents disk.old) (D.left_since disk.old (D.time disk.old)) self.old payloads
+            → OnOk result (Stands (D.contents disk.new) (D.left_since disk.new (D.time disk.new)) self.new (payloads ++ payload_in framed.old ∷ [])) }
+        ensures any_moment { (payloads : List (List ℕ)) → Stands (D.contents disk.old) (D.left_since disk.old (D.time disk.old)) self.old payloads
+            → Leaves D.time D.left_since (At self.old.file (WithOrWithout payloads (payload_in framed.old))) disk.old disk.new }
+
+        // What is written: the length, the payload and a closed gate, and then the open gate. From Ok on it is durable.
+        ensures written { OnOk result (D.contents disk.new
+            ≡ option_map (changed_at self.old.file (written self.old.end (1 ∷ [])))
+            (option_map (changed_at self.old.file (written (self.old.end + 1) (body (payload_in framed.old) ++ 0 ∷ []))) (D.contents disk.old))) }
+        ensures durable { Told (D.contents disk.new) (λ m. OnOk result (Only self.old.file (m self.old.file) (D.left_since disk.new (D.time disk.new)))) }
+
+        // Whatever is known of the file, it changes only where the record and the closing gate stand, and other files stay.
+        ensures part { Leaves D.time D.left_since (At self.old.file (Torn self.old.end (6 + length (payload_in framed.old)))) disk.old disk.new }
+        ensures others { OthersKept self.old.file (D.contents disk.old) (D.contents disk.new) }
+        ensures read { D.bytes_read disk.new ≡ D.bytes_read disk.old }
+
+        // What the log knows doesn't hang on what the file has.
+        ensures knows { (payloads : List (List ℕ)) → Knows self.old payloads → OnOk result (Knows self.new (payloads ++ payload_in framed.old ∷ [])) }
+        ensures listed { OnOk result (self.new.places ≡ self.old.places ++ record { at = self.old.end; len = length (payload_in framed.old) } ∷ []) }
+        ensures end { OnOk result (self.new.end ≡ self.old.end + (5 + length (payload_in framed.old))) }
+        ensures same { SameFile self.old self.new }
+        ensures err { OnErr result (Unchanged self.old self.new) }
+        ensures full { IsOver self.old (5 + length (payload_in framed.old)) ⊎ (2 ^ 32 ≤ length (payload_in framed.old)) → result ≡ Err (StoreFault.Full self.old.file) }
+        ensures cause { IfErr result (AppendCause self.old (length (payload_in framed.old)) (D.faults disk.old) (D.faults disk.new)) }
+        ensures faults { D.faults disk.old ≤ D.faults disk.new }
+
+        // But for a failure of the disk, an error comes before the first device call.
+        ensures before { IfErr result (λ e. e ≢ Failed → disk.new ≡ disk.old) }
+
+        // The buffer's payload stays.
+        ensures buffer { (length framed.new ≡ length framed.old) × (payload_in framed.new ≡ payload_in framed.old) }
+
+        // Where room was made, only the disk may fail, and the room that is left is what the payload didn't take.
+        ensures only { (payloads total : ℕ) → length (payload_in framed.old) < 2 ^ 32 → HasRoomInPlace self.old (1 + payloads) (5 + length (payload_in framed.old) + total) → IfErr result (λ e. e ≡ Failed) }
+        ensures left { (payloads total : ℕ) → HasRoomInPlace self.old (1 + payloads) (5 + length (payload_in framed.old) + total) → OnOk result (HasRoomInPlace self.new payloads total) }
+    {
+        let size = payload_len(framed) as u64;
+        if size > u32::MAX as u64 || !fits(self.limit, self.end, 5 + size) {
+            return Err(StoreFault::Full { file: self.file });
+        }
+        self.places.reserve(1)?;
+        frame(framed);
+        let Ok(()) = write_record(disk, self.file, self.end, framed) else {
+            return Err(StoreFault::DiskFailed);
+        };
+        self.places
+            .push(Place {
+                at: self.end,
+                len: size as u32,
+            })
+            .unwrap();
+        self.end += 5 + size;
+        Ok(())
+    }
+
     /// Where the payloads lie, in their order.
     pub fn places(&self) -> &[Place]
         ensures all { result.now ≡ self.now.places }
@@ -163,10 +230,24 @@ impl Log {
     }
 
     /// Makes room for so many payloads that let the file grow by `total` bytes together, 5 for each and those of the
-    /// payloads. Appending them takes no memory, and none is refused as too much. `Full` where the file would grow beyond
-    /// its limit.
+    /// payloads. Appending them takes no memory, and none is refused as too much. `Full` exactly where the file would grow
+    /// beyond its limit, the closing gate counted.
     pub fn room(&mut self, payloads: u64, total: u64) -> Result<(), StoreFault>
         ensures ok { OnOk result (HasRoom self.new payloads total) }
+        ensures same { Unchanged self.old self.new }
+        ensures full { IsOver self.old total → result ≡ Err (StoreFault.Full self.old.file) }
+        ensures cause { IfErr result (RoomCause self.old total) }
+    {
+        self.room_in_place(payloads, total)?;
+        self.buffer.clear();
+        self.buffer
+            .reserve(total.min(u32::MAX as u64 + 5) as usize)?;
+        Ok(())
+    }
+
+    /// Makes room as `room` does, for payloads that are appended in place.
+    pub fn room_in_place(&mut self, payloads: u64, total: u64) -> Result<(), StoreFault>
+        ensures ok { OnOk result (HasRoomInPlace self.new payloads total) }
         ensures same { Unchanged self.old self.new }
         ensures full { IsOver self.old total → result ≡ Err (StoreFault.Full self.old.file) }
         ensures cause { IfErr result (RoomCause self.old total) }
@@ -175,9 +256,6 @@ impl Log {
             return Err(StoreFault::Full { file: self.file });
         }
         self.places.reserve(payloads as usize)?;
-        self.buffer.clear();
-        self.buffer
-            .reserve(total.min(u32::MAX as u64 + 5) as usize)?;
         Ok(())
     }
 

@@ -7,7 +7,7 @@ use disk_model::{Disk, DiskFailed};
 
 /// What stands at a gate.
 #[derive(Clone, Copy, Debug)]
-pub enum Head {
+pub(crate) enum Head {
     /// The list of records ends here.
     Closed,
     /// A record with a payload of this length.
@@ -20,6 +20,7 @@ impl Head {
     ghost use Rattle.batch_log.specs.Opening.{IsHead};
     ghost use Rattle.batch_log.specs.Reading.{ReadAtMost};
 
+    // What the bytes that were read of a gate and a length say.
     fn parse(buf: &[u8], count: usize) -> Head
         requires { length buf.now ≡ 5 }
         ensures { (bytes : List ℕ) → 0 < length bytes → take count buf.now ≡ take 5 bytes → count ≡ min 5 (length bytes) → IsHead bytes result }
@@ -37,7 +38,7 @@ impl Head {
     }
 
     /// Reads what stands at the gate at an offset, with one device call.
-    pub fn read<D: Disk>(disk: &mut D, file: u32, at: u64) -> Result<Head, DiskFailed>
+    pub(crate) fn read<D: Disk>(disk: &mut D, file: u32, at: u64) -> Result<Head, DiskFailed>
         ensures head { (m : ℕ → List ℕ) → D.contents disk.old ≡ Some m → at < length (m file) → IfOk result (λ head. IsHead (drop at (m file)) head) }
         ensures contents { D.contents disk.new ≡ D.contents disk.old }
         ensures quiet { Quiet D.time D.left_since disk.old disk.new }

@@ -6,7 +6,7 @@ mod gated_log;
 mod gates;
 mod opening;
 mod places;
-mod writing;
+mod records;
 
 pub use gated_log::Log;
 pub use places::Place;

@@ -15,7 +15,7 @@ use std::alloc::Global;
 
 /// Makes durable what the file reads as, and an empty log of a file that has at most one byte. Answers the length that
 /// the file had.
-pub fn begin<D: Disk>(disk: &mut D, file: u32) -> Result<u64, DiskFailed>
+pub(crate) fn begin<D: Disk>(disk: &mut D, file: u32) -> Result<u64, DiskFailed>
     ensures length { Told (D.contents disk.old) (λ m. IfOk result (λ n. n ≡ length (m file))) }
     ensures any_moment { (m : ℕ → List ℕ) → D.contents disk.old ≡ Some m → Leaves D.time D.left_since (At file SameLog) disk.old disk.new }
     ensures part { Leaves D.time D.left_since (At file (Torn 0 1)) disk.old disk.new }
@@ -42,7 +42,7 @@ pub fn begin<D: Disk>(disk: &mut D, file: u32) -> Result<u64, DiskFailed>
 
 /// Reads the gates of a file of more than one byte, up to the closed one. Answers where the payloads lie, and the offset
 /// of the closed gate.
-pub fn find_places<D: Disk>(
+pub(crate) fn find_places<D: Disk>(
     alloc: Global,
     disk: &mut D,
     file: u32,

@@ -49,16 +49,18 @@ fn a_payload_is_written_and_read(rt: HostRuntime) -> Result<(), Fail> {
     let mut disk = MemDisk::new(rt.alloc());
     let mut log = Log::open(rt.alloc(), &mut disk, 3, &LIMITS)?;
     log.append(&mut disk, &[0xaa, 0xbb])?;
+    let mut framed = [9, 9, 9, 9, 0xcc, 9];
+    log.append_in_place(&mut disk, &mut framed)?;
     let image = disk.image()?;
     assert_eq!(rt;
         image.get(3).unwrap_or(&[]),
-        [1, 2, 0, 0, 0, 0xaa, 0xbb, 0].as_slice()
+        [1, 2, 0, 0, 0, 0xaa, 0xbb, 1, 1, 0, 0, 0, 0xcc, 0].as_slice()
     );
 
-    // The ninth call fails, which is the first read.
-    disk.fail_at(&[9])?;
+    // The thirteenth call fails, which is the first read.
+    disk.fail_at(&[13])?;
     let places = log.places();
-    assert!(rt; places.len() == 1);
+    assert!(rt; places.len() == 2);
     let place = places[0];
     assert!(rt; place.at == 0 && place.len == 2);
     let mut buf = [0; 2];

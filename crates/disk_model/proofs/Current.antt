@@ -13,7 +13,7 @@ use Rattle.disk_model.specs.declared.call.Call.{Call}
 use Rattle.disk_model.specs.Disk.{changed_at, written}
 use Rattle.disk_model.specs.Image.{Files, bytes_in, cut_in}
 use Rattle.disk_model.specs.Crash.{FileState, after_write, after_cut, after_sync}
-use Rattle.disk_model.specs.Replay.{applied, is_done_by, states, IsNumberedTo, IsCurrent, IsBlank}
+use Rattle.disk_model.specs.Replay.{after_request, is_done_by, states, IsNumberedTo, IsCurrent, IsBlank}
 use Rattle.disk_model.proofs.Lookups.{bytes_in-changed, key_test}
 use Rattle.disk_model.proofs.States.{states_past, states-push, states_done}
 
@@ -72,23 +72,23 @@ sync_blank s blank = record { reads = blank.reads; durable = blank.reads; least 
 
 module _ (start files : Files) (calls new : List Call) (clock now : ℕ) (current : IsCurrent start files calls clock) (numbered : IsNumberedTo clock calls) where
   -- a call that was not done
-  pub current_still : clock ≤ now → ((k f : ℕ) → states start new k f ≡ states start calls k f) → (after : Files) → after ≡ files → IsCurrent start after new now
-  current_still le same after stay = subst (λ (m : Files). IsCurrent start m new now) (sym stay) record {
+  pub current_unchanged : clock ≤ now → ((k f : ℕ) → states start new k f ≡ states start calls k f) → (after : Files) → after ≡ files → IsCurrent start after new now
+  current_unchanged le same after stay = subst (λ (m : Files). IsCurrent start m new now) (sym stay) record {
     reads = λ f. current.reads f ∙ sym (ap (λ (s : FileState). s.reads) (same now f ∙ states_past start calls clock now f numbered le));
     blank = λ k f none. subst IsBlank (sym (same k f)) (current.blank k f none);
   }
 
   -- a call that was done
   module _ (request : Request) (ticks : now ≡ clock + 1) (is : new ≡ calls ++ record { number = clock + 1; done = true; request = request } ∷ []) where
-    pub after_done : (f : ℕ) → states start new now f ≡ applied f request (states start calls clock f)
+    pub after_done : (f : ℕ) → states start new now f ≡ after_request f request (states start calls clock f)
     after_done f =
         let call : Call = record { number = clock + 1; done = true; request = request } in
         let one : (clock + 1) - 1 ≡ clock = omega arith in
         states_done start calls new call is refl (subst (λ n. IsNumberedTo n calls) (sym one) numbered) now f (omega arith)
-        ∙ ap (λ n. applied f request (states start calls n f)) one
+        ∙ ap (λ n. after_request f request (states start calls n f)) one
 
-    current_done : (after : Files) → ((f : ℕ) → bytes_in after f ≡ (applied f request (states start calls clock f)).reads)
-        → ((f : ℕ) → get after f ≡ None → (get files f ≡ None) × ((s : FileState) → IsBlank s → IsBlank (applied f request s)))
+    current_done : (after : Files) → ((f : ℕ) → bytes_in after f ≡ (after_request f request (states start calls clock f)).reads)
+        → ((f : ℕ) → get after f ≡ None → (get files f ≡ None) × ((s : FileState) → IsBlank s → IsBlank (after_request f request s)))
         → IsCurrent start after new now
     current_done after reads lacks = record {
       reads = λ f. reads f ∙ sym (ap (λ (s : FileState). s.reads) (after_done f));
@@ -96,7 +96,7 @@ module _ (start files : Files) (calls new : List Call) (clock now : ℕ) (curren
           let call : Call = record { number = clock + 1; done = true; request = request } in
           let was = lacks f none in
           let old = current.blank k f was.0 in
-          subst IsBlank (sym (states-push start calls new call is k f)) (if_blank (is_done_by k call) (applied f request (states start calls k f)) (states start calls k f) (was.1 (states start calls k f) old) old);
+          subst IsBlank (sym (states-push start calls new call is k f)) (if_blank (is_done_by k call) (after_request f request (states start calls k f)) (states start calls k f) (was.1 (states start calls k f) old) old);
     }
 
   pub current_write : (file at : ℕ) (xs : List ℕ) → now ≡ clock + 1 → new ≡ calls ++ record { number = clock + 1; done = true; request = Write file at xs } ∷ []
@@ -130,7 +130,7 @@ module _ (start files : Files) (calls new : List Call) (clock now : ℕ) (curren
       at_bool false bytes = refl
 
   -- a call that looks only
-  pub current_look : (request : Request) → ((f : ℕ) (s : FileState) → applied f request s ≡ s) → now ≡ clock + 1 → new ≡ calls ++ record { number = clock + 1; done = true; request = request } ∷ []
+  pub current_look : (request : Request) → ((f : ℕ) (s : FileState) → after_request f request s ≡ s) → now ≡ clock + 1 → new ≡ calls ++ record { number = clock + 1; done = true; request = request } ∷ []
       → IsCurrent start files new now
   current_look request looks ticks is = current_done request ticks is files
       (λ f. current.reads f ∙ sym (ap (λ (s : FileState). s.reads) (looks f (states start calls clock f))))

@@ -12,9 +12,10 @@ use Rattle.disk_model.specs.Disk.{Image, At, Torn, Cut as CutStep, Stays, Moves,
 use Rattle.disk_model.specs.Image.{Files, bytes_in, cut_in}
 use Rattle.disk_model.specs.Crash.{FileState, IsImage, IsFileImage, after_write, after_cut, after_sync}
 use Rattle.disk_model.specs.Sound.{IsSound}
-use Rattle.disk_model.specs.Replay.{applied, states, LeftSince, Recorded, IsNumberedTo, IsCurrent, bytes_read_of, count_read, states_sound}
+use Rattle.disk_model.specs.Replay.{after_request, states, LeftSince, Recorded, IsNumberedTo, IsCurrent, bytes_read_of, count_read}
+use Rattle.disk_model.specs.ReplayLaws.{states_sound}
 use Rattle.disk_model.proofs.States.{states_undone, moves_still, moves_done}
-use Rattle.disk_model.proofs.Current.{current_still, current_write, current_cut, current_sync, current_look, after_done}
+use Rattle.disk_model.proofs.Current.{current_unchanged, current_write, current_cut, current_sync, current_look, after_done}
 use Rattle.disk_model.proofs.Follows.{all_follow, write_follows, cut_follows, sync_follows, rest_only}
 
 -- the request is on record as done; or it isn't
@@ -34,7 +35,7 @@ both_ok (Err e) P Q p q = tt
 
 -- a request that changes no file
 abbrev pub IsLook : Request → Type 0
-IsLook request = (f : ℕ) (s : FileState) → applied f request s ≡ s
+IsLook request = (f : ℕ) (s : FileState) → after_request f request s ≡ s
 
 module _ (start files : Files) (calls new : List Call) (clock now : ℕ) (current : IsCurrent start files calls clock) (numbered : IsNumberedTo clock calls)
     (in_time : clock ≤ 2 ^ 64 - 1) (ticks : now ≡ min (clock + 1) (2 ^ 64 - 1)) where
@@ -44,15 +45,15 @@ module _ (start files : Files) (calls new : List Call) (clock now : ℕ) (curren
   next : clock < 2 ^ 64 - 1 → now ≡ clock + 1
   next early = omega arith
 
-  pub still : (request : Request) → IsUndone (clock + 1) request calls new → (k f : ℕ) → states start new k f ≡ states start calls k f
-  still request undone k f = ⊎_elim
+  pub same_states : (request : Request) → IsUndone (clock + 1) request calls new → (k f : ℕ) → states start new k f ≡ states start calls k f
+  same_states request undone k f = ⊎_elim
       (λ same. ap (λ (cs : List Call). states start cs k f) same)
       (λ is. states_undone start calls new record { number = clock + 1; done = false; request = request } is refl k f)
       undone
 
   -- the files, after a call that failed
   pub current_failed : (request : Request) → IsUndone (clock + 1) request calls new → (after : Files) → after ≡ files → IsCurrent start after new now
-  current_failed request undone after same = current_still start files calls new clock now current numbered later (still request undone) after same
+  current_failed request undone after same = current_unchanged start files calls new clock now current numbered later (same_states request undone) after same
 
   pub current_looked : {T E : Type 0} (request : Request) (result : Result T E) → IsLook request → Recorded (clock + 1) request calls new result → OnOk result (clock < 2 ^ 64 - 1)
       → IsCurrent start files new now
@@ -80,9 +81,9 @@ module _ (start files : Files) (calls new : List Call) (clock now : ℕ) (curren
   pub failed_moves : {T E : Type 0} (Step : Image → Image → Type 0) (request : Request) (result : Result T E) → ((c : Image) → Step c c) → IsErr result → IsUndone (clock + 1) request calls new
       → Moves Step clock now (LeftSince start calls clock) (LeftSince start new now) result
   failed_moves Step request result none failed undone =
-      moves_still Step start calls new clock now result in_time ticks numbered (still request undone) none (λ end. failed)
+      moves_still Step start calls new clock now result in_time ticks numbered (same_states request undone) none (λ end. failed)
 
-  looks_follow : (request : Request) → IsLook request → (old after : ℕ → FileState) → ((f : ℕ) → after f ≡ applied f request (old f)) → (c : Image) → IsImage after c → (e : Image) × IsImage old e × Stays e c
+  looks_follow : (request : Request) → IsLook request → (old after : ℕ → FileState) → ((f : ℕ) → after f ≡ after_request f request (old f)) → (c : Image) → IsImage after c → (e : Image) × IsImage old e × Stays e c
   looks_follow request looks old after is c im = (c, (λ f. subst (λ (s : FileState). IsFileImage s (c f)) (is f ∙ looks f (old f)) (im f)), refl)
 
   pub look_moves : {T E : Type 0} (request : Request) (result : Result T E) → IsLook request → clock < 2 ^ 64 - 1 → IsDone (clock + 1) request calls new
@@ -177,7 +178,7 @@ module _ (start files : Files) (calls new : List Call) (clock now : ℕ) (curren
       → Moves Stays clock now (LeftSince start calls clock) (LeftSince start new now) result
   sync_made result recorded early at_end = ⊎_elim
       (λ done. sync_moves start files calls new clock now current numbered in_time ticks file result done.1 done.0)
-      (λ undone. moves_still Stays start calls new clock now result in_time ticks numbered (still start files calls new clock now current numbered in_time ticks (Sync file) undone) (λ c. refl) at_end)
+      (λ undone. moves_still Stays start calls new clock now result in_time ticks numbered (same_states start files calls new clock now current numbered in_time ticks (Sync file) undone) (λ c. refl) at_end)
       (either result (IsDone (clock + 1) (Sync file) calls new × (clock < 2 ^ 64 - 1)) (IsUndone (clock + 1) (Sync file) calls new) (both_ok result _ _ recorded.ok early) recorded.err)
 
   pub sync_done : (result : Result T E) → Recorded (clock + 1) (Sync file) calls new result → OnOk result (clock < 2 ^ 64 - 1)
@@ -188,11 +189,11 @@ module _ (start files : Files) (calls new : List Call) (clock now : ℕ) (curren
   sync_done (Err e) recorded early m told = tt
 
 -- a request for which memory was asked first
-pub asked : {T E F : Type 0} (request : Request) (made : Result Request F) (number : ℕ) (calls new : List Call) (result : Result T E) → IfOk made (λ r. r ≡ request)
+pub recorded_request : {T E F : Type 0} (request : Request) (made : Result Request F) (number : ℕ) (calls new : List Call) (result : Result T E) → IfOk made (λ r. r ≡ request)
     → IfOk made (λ r. Recorded number r calls new result) → IfErr made (λ e. IsErr result × (new ≡ calls)) → Recorded number request calls new result
-asked request (Ok r) number calls new result is recorded none = subst (λ (r : Request). Recorded number r calls new result) is recorded
-asked request (Err e) number calls new (Ok v) is recorded none = absurd (cc (none.0))
-asked request (Err e) number calls new (Err f) is recorded none = record { ok = tt; err = inl none.1 }
+recorded_request request (Ok r) number calls new result is recorded none = subst (λ (r : Request). Recorded number r calls new result) is recorded
+recorded_request request (Err e) number calls new (Ok v) is recorded none = absurd (cc (none.0))
+recorded_request request (Err e) number calls new (Err f) is recorded none = record { ok = tt; err = inl none.1 }
 
 pub if_err : {T E : Type 0} (result : Result T E) (P : Type 0) → P → OnErr result P
 if_err (Ok v) P p = tt

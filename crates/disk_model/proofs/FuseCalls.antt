@@ -1,13 +1,14 @@
 -- The calls of a fuse.
 use Rattle.std.proofs.Common.{◌≡◌, ℕ, ◌+◌, ◌-◌, ◌^◌, ◌≤◌, arith, subst, sym, inl, inr, ⊎_elim}
-use Rattle.std.specs.Prelude.{min, ◌⊎◌, List, Result, Ok, Err, IsErr, Option, None, Some}
-use Rattle.disk_model.specs.Disk.{Image, Moves, HasCause, Only, BothTold}
-use Rattle.disk_model.specs.Fuse.{fuse_time, now_is, at_now}
+use Rattle.std.specs.Prelude.{min, ◌⊎◌, List, Result, IsErr, Option, None, Some}
+use Rattle.disk_model.specs.Disk.{Image, Moves, Only, BothTold}
+use Rattle.disk_model.specs.Fuse.{fuse_time}
+use Rattle.disk_model.specs.FuseLaws.{now_is, at_now}
 
 module _ {T E : Type 0} (Step : Image → Image → Type 0) (past since : ℕ → Image → Type 0) (before now : ℕ) (result : Result T E) where
   -- a call that is passed on
-  pub passed : Moves Step before now past since result → Moves Step (fuse_time before 0) (fuse_time now 0) (λ t c. past (min t before) c) (λ t c. since (min t now) c) result
-  passed m =
+  pub passed_moves : Moves Step before now past since result → Moves Step (fuse_time before 0) (fuse_time now 0) (λ t c. past (min t before) c) (λ t c. since (min t now) c) result
+  passed_moves m =
       let b : fuse_time before 0 ≡ before = omega arith in
       let n : fuse_time now 0 ≡ now = omega arith in
       let later = m.later in
@@ -28,9 +29,9 @@ module _ {T E : Type 0} (Step : Image → Image → Type 0) (past since : ℕ �
       }
 
 -- a call that is refused
-pub refused : {T E : Type 0} (Step : Image → Image → Type 0) (past : ℕ → Image → Type 0) (inner own after : ℕ) (result : Result T E) → ((c : Image) → Step c c) → own ≤ 2 ^ 64 - 1 → after ≡ min (own + 1) (2 ^ 64 - 1) → IsErr result
+pub refused_moves : {T E : Type 0} (Step : Image → Image → Type 0) (past : ℕ → Image → Type 0) (inner own after : ℕ) (result : Result T E) → ((c : Image) → Step c c) → own ≤ 2 ^ 64 - 1 → after ≡ min (own + 1) (2 ^ 64 - 1) → IsErr result
     → Moves Step (fuse_time inner own) (fuse_time inner after) (λ t c. past (min t inner) c) (λ t c. past (min t inner) c) result
-refused Step past inner own after result none own_fits is failed = record {
+refused_moves Step past inner own after result none own_fits is failed = record {
   later = omega arith;
   rises = omega arith;
   nothing_else = λ t c le left. inl left;
@@ -39,12 +40,8 @@ refused Step past inner own after result none own_fits is failed = record {
   at_end = λ end. (failed, omega arith, λ t c left. left);
 }
 
-pub refused_cause : {T E : Type 0} (inner own after : ℕ) (result : Result T E) → own ≤ 2 ^ 64 - 1 → after ≡ min (own + 1) (2 ^ 64 - 1) → HasCause (inner + own) (inner + after) result
-refused_cause inner own after (Ok v) fits is = record { later = omega arith; failed = tt }
-refused_cause inner own after (Err e) fits is = record { later = omega arith; failed = omega arith }
-
-pub still_only : (P : ℕ → Image → Type 0) (file : ℕ) (bytes : List ℕ) (inner own : ℕ) → own ≡ 0 → Only file bytes (P inner) → Only file bytes (λ c. P (min (fuse_time inner own) inner) c)
-still_only P file bytes inner own is only c left = only c (subst (λ k. P k c) (sym (now_is inner own)) left)
+pub only_behind : (P : ℕ → Image → Type 0) (file : ℕ) (bytes : List ℕ) (inner own : ℕ) → own ≡ 0 → Only file bytes (P inner) → Only file bytes (λ c. P (min (fuse_time inner own) inner) c)
+only_behind P file bytes inner own is only c left = only c (subst (λ k. P k c) (sym (now_is inner own)) left)
 
 -- what is told stays, so it is told by a step that may be none
 pub both_same : (Related : Image → Image → Type 0) → ((c : Image) → Related c c) → (told : Option Image) → BothTold Related told told

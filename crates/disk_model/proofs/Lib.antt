@@ -3,6 +3,8 @@ pub mod Entering
 pub mod Follows
 pub mod FuseCalls
 pub mod Lookups
+pub mod Moments
 pub mod Picks
+pub mod Reading
 pub mod States
 pub mod Writing

@@ -49,7 +49,7 @@ after_sync s = at_rest s.reads
 
 -- the image that a pick stands for: what was durable, as short as it may be; as the file reads; as long as it may be,
 -- with this byte wherever it is free
-abbrev pub picked : Pick → FileState → List ℕ
-picked Old s = take s.least s.durable
-picked New s = s.reads
-picked (Fill byte) s = map (λ i. if nat_lt i s.least && not (s.covered i) then get_or s.durable i 0 else byte) (range_with_len 0 s.most)
+abbrev pub image_of : Pick → FileState → List ℕ
+image_of Old s = take s.least s.durable
+image_of New s = s.reads
+image_of (Fill byte) s = map (λ i. if nat_lt i s.least && not (s.covered i) then get_or s.durable i 0 else byte) (range_with_len 0 s.most)

@@ -1,5 +1,5 @@
 -- What the calls of a disk do to its files, and what a crash may leave of them.
-use Rattle.std.specs.Prelude.{⊤, ◌≡◌, ◌≢◌, ◌⊎◌, ℕ, ◌+◌, ◌-◌, ◌^◌, ◌≤◌, ◌==◌, min, max, List, ◌++◌, length, take, drop, replicate, if◌then◌else◌, Option, Some, None, Result, IsErr, OnErr}
+use Rattle.std.specs.Prelude.{⊤, ◌≡◌, ◌≢◌, ◌⊎◌, ℕ, ◌+◌, ◌-◌, ◌^◌, ◌≤◌, ◌==◌, min, max, List, ◌++◌, length, take, drop, replicate, if◌then◌else◌, Option, Some, None, Result, IsErr, OnOk, OnErr}
 
 -- the bytes of each file, by its number; a file that isn't there is empty
 abbrev pub Image : Type 0
@@ -62,10 +62,11 @@ OthersKept file old new = BothTold (λ m n. (f : ℕ) → f ≢ file → n f ≡
 abbrev pub Rose : ℕ → ℕ → Type 0
 Rose before now = min (before + 1) (2 ^ 64 - 1) ≤ now
 
--- the count of faults never falls, and an error comes only where it rose
+-- the count of faults never falls, an error comes only where it rose, and at an Ok it stays
 pub record HasCause {T E : Type 0} (before now : ℕ) (result : Result T E) : Type 0 where
   pub later : before ≤ now
   pub failed : OnErr result (Rose before now)
+  pub kept : OnOk result (now ≡ before)
 
 -- a call takes time, and a crash in it leaves what it might have left before the call, or that after this step
 pub record Moves {T E : Type 0} (Step : Image → Image → Type 0) (before now : ℕ) (past since : ℕ → Image → Type 0) (result : Result T E) : Type 0 where

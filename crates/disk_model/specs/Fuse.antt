@@ -1,6 +1,5 @@
 -- The clock of a disk behind a fuse.
-use Rattle.std.specs.Prelude.{◌≡◌, ℕ, ◌+◌, ◌^◌, ◌-◌, ◌≤◌, min, max}
-use Rattle.std.proofs.Common.{arith, subst}
+use Rattle.std.specs.Prelude.{ℕ, ◌+◌, ◌^◌, ◌-◌, min, max}
 use Rattle.disk_model.specs.Disk.{Image}
 
 -- the fuse's own clock is added to the disk's; the sum stands at the last value of u64
@@ -10,15 +9,3 @@ fuse_time inner own = max inner (min (inner + own) (2 ^ 64 - 1))
 -- what a crash since t leaves: past the disk's clock nothing happens to the disk
 abbrev pub fuse_left : (ℕ → Image → Type 0) → ℕ → ℕ → Image → Type 0
 fuse_left left inner t c = left (min t inner) c
-
-pub now_is : (inner own : ℕ) → inner ≡ min (fuse_time inner own) inner
-now_is inner own = omega arith
-
-pub at_now : (P : ℕ → Type 0) (inner own : ℕ) → P inner → P (min (fuse_time inner own) inner)
-at_now P inner own p = subst P (now_is inner own) p
-
-pub clamped : (t u n : ℕ) → t ≤ u → min t n ≤ min u n
-clamped t u n le = omega arith
-
-pub below : (t n : ℕ) → min t n ≤ n
-below t n = omega arith

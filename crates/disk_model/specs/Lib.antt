@@ -2,10 +2,12 @@ pub mod Crash
 pub mod Disk
 pub mod Fuse
 pub mod FuseDisk
+pub mod FuseLaws
 pub mod Image
 pub mod MemDisk
-pub mod Moments
+pub mod Reads
 pub mod Replay
+pub mod ReplayLaws
 pub mod Replayed
 pub mod Sound
 pub mod Untold

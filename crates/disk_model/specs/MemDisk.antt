@@ -1,5 +1,5 @@
 -- What a disk in memory shows.
-use Rattle.std.specs.Prelude.{◌≡◌, ℕ, ◌+◌, List, [], Option, Some, Contains, Result, OnErr, IsErr}
+use Rattle.std.specs.Prelude.{◌≡◌, ℕ, ◌+◌, ◌-◌, ◌^◌, min, List, [], Option, Some, Contains, Result, OnErr, IsErr}
 use Rattle.disk_model.specs.declared.call.Request.{Request}
 use Rattle.disk_model.specs.declared.call.Call.{Call}
 use Rattle.disk_model.specs.declared.mem.MemDisk.{MemDisk}
@@ -59,10 +59,11 @@ abbrev pub HoldsDurably : Files → MemDisk → Type 0
 HoldsDurably image d = (t : ℕ) (c : Image) → left_since_of d t c → (f : ℕ) → c f ≡ bytes_in image f
 
 -- what each device call of a disk in memory does beside its effect: it goes on record with its outcome; it fails where it is
--- made to; and where it fails it leaves the files
+-- made to; where it fails it leaves the files; and it moves the clock by one, up to the clock's end
 pub record Makes {T E : Type 0} (request : Request) (old new : MemDisk) (result : Result T E) : Type 0 where
   pub recorded : Recorded (clock_of old + 1) request (calls_of old) (calls_of new) result
   pub made_to_fail : Contains (failing_of old) (clock_of old + 1) → IsErr result
   pub nothing_done : OnErr result (files_of new ≡ files_of old)
   pub failing : failing_of new ≡ failing_of old
   pub start : start_of new ≡ start_of old
+  pub ticks : clock_of new ≡ min (clock_of old + 1) (2 ^ 64 - 1)

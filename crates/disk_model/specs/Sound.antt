@@ -1,13 +1,10 @@
--- As it reads, a file is one of its images; and so is each pick.
-use Rattle.std.specs.Prelude.{◌⊎◌, ◌<◌, ◌≡◌, ℕ, ◌+◌, ◌≤◌, ◌||◌, ◌&&◌, not, max, Bool, true, false, List, length, get_or, nat_lt, refl}
-use Rattle.std.proofs.Common.{arith, ◌∙◌, ⊎_elim, cond}
+-- As it reads, a file is one of its images: laws that the disk in memory cites for those of the trait.
+use Rattle.std.specs.Prelude.{◌⊎◌, ◌<◌, ◌≡◌, ℕ, ◌+◌, ◌≤◌, ◌||◌, max, Bool, true, false, List, length, get_or, refl}
+use Rattle.std.proofs.Common.{arith, ◌∙◌, ⊎_elim}
 use Rattle.std.proofs.lemmas.List.{places, length-take, get_or-take}
-use Rattle.std.proofs.lemmas.List.FromFn.{length-map-range_with_len, get_or-map-range_with_len}
 use Rattle.std.proofs.lemmas.Bool.Decides.{nat_tests}
 use Rattle.disk_model.specs.Disk.{written}
-use Rattle.disk_model.specs.Crash.{FileState, IsFileImage, in_range, at_rest, after_write, after_cut, picked}
-use Rattle.disk_model.specs.declared.pick.Pick.{Pick}
-use Rattle.disk_model.specs.declared.pick.Pick.TheVariants.{Old, New, Fill}
+use Rattle.disk_model.specs.Crash.{FileState, IsFileImage, in_range, at_rest, after_write, after_cut}
 
 -- its bounds are in order, and it reads as one of its images
 pub record IsSound (s : FileState) : Type 0 where
@@ -69,35 +66,4 @@ cut_sound n s sound =
         no_longer = omega arith;
         kept = λ i below bare. get_or-take n s.reads i 0 (omega arith) ∙ is.kept i (omega arith) bare;
       };
-    }
-
-lt_true : (a b : ℕ) → a < b → nat_lt a b ≡ true
-lt_true a b h = grind (arith, nat_tests)
-
-not_free : (a b : Bool) (x y : ℕ) → a ≡ true → b ≡ false → cond (a && not b) x y ≡ x
-not_free true false x y h k = refl
-not_free true true x y h k = absurd (cc)
-not_free false b x y h k = absurd (cc)
-
--- each pick is an image
-pub picked_is_image : (pick : Pick) (s : FileState) → IsSound s → IsFileImage s (picked pick s)
-picked_is_image New s sound = sound.image
-picked_is_image Old s sound =
-    let lower = sound.lower in
-    let is = sound.image in
-    let shorter = is.no_shorter in
-    let longer = is.no_longer in
-    let long = length-take s.least s.durable in
-    record { no_shorter = omega arith; no_longer = omega arith; kept = λ i below bare. get_or-take s.least s.durable i 0 below }
-picked_is_image (Fill byte) s sound =
-    let is = sound.image in
-    let shorter = is.no_shorter in
-    let longer = is.no_longer in
-    let long : length (picked (Fill byte) s) ≡ s.most = length-map-range_with_len _ 0 s.most in
-    record {
-      no_shorter = omega arith;
-      no_longer = omega arith;
-      kept = λ i below bare.
-          get_or-map-range_with_len _ 0 s.most i i 0 (omega arith) (omega arith)
-          ∙ not_free (nat_lt i s.least) (s.covered i) (get_or s.durable i 0) byte (lt_true i s.least below) bare;
     }

@@ -6,5 +6,6 @@ use Rattle.disk_model.specs.Disk.{Image}
 abbrev pub no_image : Type 0
 no_image = ⊥
 
+-- a law that the disk over real files cites
 pub none_told : {A : Type 0} (m : Image) → None ≡ Some m → A
 none_told m is = absurd (cc)

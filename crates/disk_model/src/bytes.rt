@@ -1,3 +1,5 @@
+//! The bytes of a file.
+
 ghost use Rattle.std.specs.Prelude.{◌≡◌, ◌+◌, ◌-◌, ◌≤◌, ◌++◌, ℕ, List, [], length, take, drop, OnOk, OnErr, IfOk};
 ghost use Rattle.disk_model.specs.Disk.{written};
 
@@ -16,7 +18,7 @@ impl Model for Bytes {
     ghost view = { λ b. b.bytes.items };
 }
 
-/// Puts bytes over those that stand from `start` on.
+// Puts bytes over those that stand from `start` on.
 fn overwrite(all: &mut [u8], start: usize, bytes: &[u8])
     requires { start + length bytes.now ≤ length all.old }
     ensures { all.new ≡ take start all.old ++ bytes.now ++ drop (start + length bytes.now) all.old }
@@ -34,6 +36,7 @@ impl Bytes {
         }
     }
 
+    /// These bytes.
     pub fn from_slice(alloc: Global, bytes: &[u8]) -> Result<Bytes, AllocError>
         ensures { IfOk result (λ b. b ≡ bytes.now) }
     {
@@ -42,12 +45,14 @@ impl Bytes {
         })
     }
 
+    /// The bytes of a vector, which it takes over.
     pub(crate) fn from_vec(bytes: Vec<u8>) -> Bytes
         ensures { result ≡ bytes.items }
     {
         Bytes { bytes }
     }
 
+    /// The bytes, from the first on.
     pub fn as_slice(&self) -> &[u8]
         ensures { result.now ≡ self.now }
     {

@@ -1,3 +1,5 @@
+//! What is asked of a disk, and the record of a device call.
+
 ghost use Rattle.std.specs.Prelude.{◌≡◌, IfOk};
 
 use crate::Bytes;
@@ -7,7 +9,8 @@ use std::alloc::{AllocError, Global};
 #[derive(Drop)]
 pub enum Request {
     Len { file: u32 },
-    /// `count` is the number of bytes that stand there and fit into the buffer.
+    /// `count` is the length of the buffer, or for a disk in memory the number of the bytes that
+    /// stand there and fit into it.
     Read { file: u32, at: u64, count: u64 },
     Write { file: u32, at: u64, bytes: Bytes },
     Cut { file: u32, length: u64 },

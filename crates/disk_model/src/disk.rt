@@ -1,3 +1,5 @@
+//! A disk of numbered files, by what its calls do and what a crash at any moment may leave.
+
 ghost use Rattle.std.specs.Prelude.{◌≡◌, ◌+◌, ◌-◌, ◌^◌, ◌≤◌, ℕ, List, Option, Some, length, take, drop, min, option_map, IfOk, OnOk, OnErr};
 ghost use Rattle.disk_model.specs.Disk.{written, changed_at, At, Torn, Cut, Stays, Moves, Only, Told, BothTold, OthersKept, HasCause};
 

@@ -1,6 +1,9 @@
+//! A disk that fails after so many calls.
+
 ghost use Rattle.std.specs.Prelude.{◌≡◌, ◌+◌, ◌-◌, ◌^◌, ◌<◌, ◌≤◌, ◌↔◌, min, length, take, drop, option_map, IsErr, IfOk, OnErr, OnOk};
 ghost use Rattle.disk_model.specs.Disk.{written, changed_at, At, Torn, Cut, Stays, Moves, Only, Told, BothTold, OthersKept, HasCause};
-ghost use Rattle.disk_model.specs.Fuse.{fuse_time, fuse_left, at_now, clamped, below};
+ghost use Rattle.disk_model.specs.Fuse.{fuse_time, fuse_left};
+ghost use Rattle.disk_model.specs.FuseLaws.{at_now, clamped, below};
 
 use crate::{Disk, DiskFailed};
 
@@ -42,7 +45,7 @@ impl<D: Disk> FuseDisk<D> {
     }
 }
 
-/// Takes a call off those that are left, or counts it as refused.
+// Takes a call off those that are left, or counts it as refused.
 fn spend(left: &mut u64, clock: &mut u64, faults: &mut u64) -> Result<(), DiskFailed>
     requires { 0 < left.old → clock.old ≡ 0 }
     ensures blown { IsErr result ↔ (left.old ≡ 0) }

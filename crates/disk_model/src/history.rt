@@ -1,3 +1,5 @@
+//! The record of a disk in memory.
+
 ghost use Rattle.std.specs.Prelude.{◌≡◌, ◌+◌, ◌-◌, ◌^◌, ◌<◌, ◌≤◌, ◌++◌, [], ◌∷◌, min, Contains, IsErr, OnOk, OnErr, IfOk, IfErr, false};
 ghost use Rattle.disk_model.specs.Disk.{HasCause, Rose};
 ghost use Rattle.disk_model.specs.Replay.{IsNumberedTo, Recorded};
@@ -8,7 +10,7 @@ use std::alloc::{AllocError, Global};
 /// The calls of a disk in memory, its clock, its count of faults, and the numbers of the calls
 /// that are made to fail.
 #[derive(Drop)]
-pub struct History {
+pub(crate) struct History {
     calls: Vec<Call>,
     clock: u64,
     faults: u64,
@@ -17,6 +19,7 @@ pub struct History {
 }
 
 impl History {
+    /// No calls, and none that are made to fail.
     pub(crate) fn new(alloc: Global) -> History
         ensures calls { result.calls.items ≡ [] }
         ensures failing { result.failing.items ≡ [] }
@@ -31,18 +34,21 @@ impl History {
         }
     }
 
+    /// The number of the last call.
     pub(crate) fn clock(&self) -> u64
         ensures { result ≡ self.now.clock }
     {
         self.clock
     }
 
+    /// The calls, the oldest first.
     pub(crate) fn calls(&self) -> &[Call]
         ensures { result.now ≡ self.now.calls.items }
     {
         self.calls.as_slice()
     }
 
+    /// Makes the calls with these numbers fail.
     pub(crate) fn fail_at(&mut self, calls: &[u64]) -> Result<(), AllocError>
         ensures ok { OnOk result (self.new.failing.items ≡ self.old.failing.items ++ calls.now) }
         ensures err { OnErr result (self.new.failing.items ≡ self.old.failing.items) }
@@ -51,6 +57,7 @@ impl History {
         self.failing.extend_from_slice(calls)
     }
 
+    // Counts a fault.
     fn fault(&mut self) -> Result<(), DiskFailed>
         ensures err { IsErr result }
         ensures rises { Rose self.old.faults self.new.faults }

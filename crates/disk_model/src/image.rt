@@ -1,3 +1,5 @@
+//! The files of a disk at a moment.
+
 ghost use Rattle.std.specs.Prelude.{◌≡◌, ◌==◌, is_some, ℕ, List, length, OnOk, OnErr, IfOk};
 ghost use Rattle.std.specs.Option.{option_copied};
 ghost use Rattle.std.specs.FinMap as map;
@@ -31,6 +33,7 @@ impl Model for Image {
     ghost view = { λ i. map.from_entries i.files.entries };
 }
 
+// The keys of a tree, in their order.
 fn keys_of(alloc: Global, files: &BTreeMap<u32, Bytes>) -> Result<Vec<u32>, AllocError>
     ensures { IfOk result (λ v. v.items ≡ tree.keys files.now) }
 {
@@ -56,6 +59,7 @@ impl Image {
         self.set(file, Bytes::from_slice(self.alloc, bytes)?)
     }
 
+    /// Gives a file these bytes, which it takes over.
     pub(crate) fn set(&mut self, file: u32, bytes: Bytes) -> Result<(), AllocError>
         ensures ok { OnOk result (self.new ≡ map.insert self.old file bytes) }
         ensures err { OnErr result (self.new ≡ self.old) }

@@ -1,6 +1,5 @@
-//! A disk of numbered files as a trait, what a crash at any moment may leave of it, and disks that
-//! tests use: one in memory, one that fails after so many calls, and one that tells nothing of
-//! itself, as the adapter over real files.
+//! A disk of numbered files as a trait, and what a crash at any moment may leave of it. Tests use a disk in memory and one
+//! that fails after so many calls; a program uses one over real files, which tells nothing of what they hold.
 #![tactic(auto)]
 
 mod bytes;
@@ -12,6 +11,7 @@ mod image;
 mod mem;
 mod pick;
 mod replay;
+mod requests;
 #[cfg(test)]
 mod tests;
 mod untold;
@@ -23,4 +23,5 @@ pub use fuse::FuseDisk;
 pub use image::Image;
 pub use mem::MemDisk;
 pub use pick::Pick;
+pub use requests::Requests;
 pub use untold::{RawFiles, UntoldDisk};

@@ -1,9 +1,12 @@
+//! A disk in memory.
+
 ghost use Rattle.std.specs.Prelude.{◌≡◌, ◌+◌, ◌-◌, ◌^◌, ◌≤◌, ◌++◌, ℕ, Some, min, length, take, drop, All, IfOk, OnOk, OnErr, option_map};
 ghost use Rattle.std.specs.FinMap as map;
 ghost use Rattle.disk_model.specs.Disk.{written, changed_at, At, Torn, Cut as CutStep, Stays, Moves, Only, Told, BothTold, OthersKept, HasCause};
 ghost use Rattle.disk_model.specs.Image.{bytes_in};
-ghost use Rattle.disk_model.specs.Crash.{picked};
-ghost use Rattle.disk_model.specs.Replay.{IsCurrent, LeftSince, bytes_read_of, reads_left, left_earlier};
+ghost use Rattle.disk_model.specs.Crash.{image_of};
+ghost use Rattle.disk_model.specs.Replay.{IsCurrent, LeftSince, bytes_read_of};
+ghost use Rattle.disk_model.specs.ReplayLaws.{reads_left, left_earlier};
 
 use crate::history::History;
 use crate::replay::Replayed;
@@ -45,6 +48,7 @@ impl MemDisk {
         MemDisk::at_rest(alloc, image.clone()?)
     }
 
+    // A disk whose files hold the image durably, and are it.
     fn at_rest(alloc: Global, image: Image) -> Result<MemDisk, AllocError>
         ensures fresh { IfOk result (IsFresh image) }
         ensures durable { IfOk result (HoldsDurably image) }
@@ -67,7 +71,7 @@ impl MemDisk {
     /// A disk that durably holds one of the images that a crash at this moment may have left.
     pub fn after_crash(&self, moment: u64, pick: Pick) -> Result<MemDisk, AllocError>
         requires { moment ≤ clock_of self.now }
-        ensures files { IfOk result (λ d. (f : ℕ) → bytes_in (files_of d) f ≡ picked pick (state_of self.now moment f)) }
+        ensures files { IfOk result (λ d. (f : ℕ) → bytes_in (files_of d) f ≡ image_of pick (state_of self.now moment f)) }
         ensures allowed { IfOk result (λ d. left_since_of self.now moment (bytes_in (files_of d))) }
         ensures fresh { IfOk result (λ d. IsFresh (files_of d) d) }
         ensures durable { IfOk result (λ d. HoldsDurably (files_of d) d) }
@@ -75,9 +79,9 @@ impl MemDisk {
         MemDisk::at_rest(self.alloc, self.image_at(moment, pick)?)
     }
 
-    /// The image of a pick at a moment.
+    // The image of a pick at a moment.
     fn image_at(&self, moment: u64, pick: Pick) -> Result<Image, AllocError>
-        ensures { IfOk result (λ image. (f : ℕ) → bytes_in image f ≡ picked pick (state_of self.now moment f)) }
+        ensures { IfOk result (λ image. (f : ℕ) → bytes_in image f ≡ image_of pick (state_of self.now moment f)) }
     {
         let mut image = Image::new(self.alloc);
         let numbers = self.files.numbers()?;

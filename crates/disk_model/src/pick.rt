@@ -1,3 +1,5 @@
+//! A choice among the images of a file.
+
 /// Which of the images that a crash may leave of each file.
 #[derive(Clone, Copy, Debug, PartialEq, Eq)]
 pub enum Pick {

@@ -1,7 +1,9 @@
+//! The images of a file at a moment, computed from the record.
+
 ghost use Rattle.std.specs.Prelude.{◌≡◌, ◌<◌, ◌≤◌, ◌||◌, ℕ, false, length, map, get_or, IfOk, OnOk};
 ghost use Rattle.std.specs.List.{range_with_len};
-ghost use Rattle.disk_model.specs.Crash.{in_range, at_rest, after_write, after_cut, after_sync, picked};
-ghost use Rattle.disk_model.specs.Replay.{applied, replayed};
+ghost use Rattle.disk_model.specs.Crash.{in_range, at_rest, after_write, after_cut, after_sync, image_of};
+ghost use Rattle.disk_model.specs.Replay.{after_request, file_after};
 
 use crate::{Bytes, Call, Pick, Request};
 use std::alloc::{AllocError, Global};
@@ -9,7 +11,7 @@ use std::alloc::{AllocError, Global};
 /// A file as calls on record make it: how it reads, what was durable at the last sync, the least
 /// and the greatest length since, and which of the durable bytes a write since has covered.
 #[derive(Drop)]
-pub struct Replayed {
+pub(crate) struct Replayed {
     alloc: Global,
     reads: Bytes,
     durable: Bytes,
@@ -18,7 +20,7 @@ pub struct Replayed {
     covered: Vec<bool>,
 }
 
-/// Marks the places from `at` on, so many as there are.
+// Marks the places from `at` on, so many as there are.
 fn cover(covered: &mut [bool], at: usize, count: usize)
     ensures { (i : ℕ) → i < length covered.old → get_or covered.new i false ≡ (get_or covered.old i false || in_range at count i) }
 {
@@ -32,7 +34,7 @@ fn cover(covered: &mut [bool], at: usize, count: usize)
 impl Replayed {
     ghost use Rattle.disk_model.specs.Replayed.{IsShown, filled_place};
 
-    /// All bytes are durable.
+    // All bytes are durable.
     fn at_rest(alloc: Global, bytes: Bytes) -> Result<Replayed, AllocError>
         ensures { IfOk result (λ r. IsShown r (at_rest bytes)) }
     {
@@ -50,6 +52,7 @@ impl Replayed {
         })
     }
 
+    // Writes over the bytes from `at` on.
     fn write(&mut self, at: u64, bytes: &[u8]) -> Result<(), AllocError>
         ensures { OnOk result ((s : _) → IsShown self.old s → IsShown self.new (after_write at bytes.now s)) }
     {
@@ -59,6 +62,7 @@ impl Replayed {
         Ok(())
     }
 
+    // Drops the bytes from `length` on.
     fn cut(&mut self, length: u64)
         ensures { (s : _) → IsShown self.old s → IsShown self.new (after_cut length s) }
     {
@@ -66,6 +70,7 @@ impl Replayed {
         self.least = self.least.min(length);
     }
 
+    // Makes the bytes durable.
     fn sync(&mut self) -> Result<(), AllocError>
         ensures { OnOk result ((s : _) → IsShown self.old s → IsShown self.new (after_sync s)) }
     {
@@ -73,9 +78,9 @@ impl Replayed {
         Ok(())
     }
 
-    /// Does a request, if it speaks of this file.
+    // Does a request, if it speaks of this file.
     fn apply(&mut self, file: u32, request: &Request) -> Result<(), AllocError>
-        ensures { OnOk result ((s : _) → IsShown self.old s → IsShown self.new (applied file request.now s)) }
+        ensures { OnOk result ((s : _) → IsShown self.old s → IsShown self.new (after_request file request.now s)) }
     {
         match request {
             Request::Write {
@@ -111,7 +116,7 @@ impl Replayed {
         file: u32,
         moment: u64,
     ) -> Result<Replayed, AllocError>
-        ensures { IfOk result (λ r. IsShown r (replayed moment file calls.now (at_rest start.now))) }
+        ensures { IfOk result (λ r. IsShown r (file_after moment file calls.now (at_rest start.now))) }
     {
         let mut state = Replayed::at_rest(alloc, Bytes::from_slice(alloc, start)?)?;
         for call in calls {
@@ -122,7 +127,7 @@ impl Replayed {
         Ok(state)
     }
 
-    /// The durable byte at a place, or this byte where it is free.
+    // The durable byte at a place, or this byte where it is free.
     fn filled_byte(&self, place: usize, byte: u8) -> u8
         requires lower { self.now.least ≤ length self.now.durable }
         requires marks { length self.now.covered.items ≡ length self.now.durable }
@@ -135,7 +140,7 @@ impl Replayed {
         }
     }
 
-    /// As long as the file may be, with this byte wherever it is free.
+    // As long as the file may be, with this byte wherever it is free.
     fn filled(&self, byte: u8) -> Result<Bytes, AllocError>
         requires lower { self.now.least ≤ length self.now.durable }
         requires marks { length self.now.covered.items ≡ length self.now.durable }
@@ -151,7 +156,7 @@ impl Replayed {
     /// The image of a pick.
     pub(crate) fn picked(self, pick: Pick) -> Result<Bytes, AllocError>
         requires { (s : _) × IsShown self s }
-        ensures { IfOk result (λ b. (s : _) → IsShown self s → b ≡ picked pick s) }
+        ensures { IfOk result (λ b. (s : _) → IsShown self s → b ≡ image_of pick s) }
     {
         match pick {
             Pick::Old => {

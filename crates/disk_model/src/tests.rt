@@ -1,4 +1,6 @@
-use crate::{Disk, DiskFailed, FuseDisk, Image, MemDisk, Pick, RawFiles, UntoldDisk};
+ghost use Rattle.std.specs.Prelude.{◌≡◌};
+
+use crate::{Disk, DiskFailed, FuseDisk, Image, MemDisk, Pick, RawFiles, Requests, UntoldDisk};
 use std::test::Fail;
 
 /// Six calls on file 0: bytes, a sync, bytes over its end, a cut, a gap, and a sync.
@@ -85,14 +87,17 @@ fn a_fuse_passes_so_many_calls(rt: HostRuntime) -> Result<(), Fail> {
     Ok(())
 }
 
-/// Files that fail at their last call, and tell more bytes than fit.
+/// Files that fail at their last call, tell more bytes than fit, and keep what they were asked.
 #[derive(Drop)]
 struct Files {
     calls: u8,
+    requests: Requests,
 }
 
 impl Files {
-    fn answer(&mut self) -> Result<(), DiskFailed> {
+    fn answer(&mut self) -> Result<(), DiskFailed>
+        ensures { self.new.requests ≡ self.old.requests }
+    {
         if self.calls == 0 {
             return Err(DiskFailed);
         }
@@ -102,32 +107,42 @@ impl Files {
 }
 
 impl RawFiles for Files {
-    fn len(&mut self, _file: u32) -> Result<u64, DiskFailed> {
+    ghost requests = { λ f. f.requests.items };
+
+    fn len(&mut self, file: u32) -> Result<u64, DiskFailed> {
+        self.requests.add_len(file);
         self.answer()?;
         Ok(7)
     }
 
-    fn read(&mut self, _file: u32, _at: u64, _buf: &mut [u8]) -> Result<usize, DiskFailed> {
+    fn read(&mut self, file: u32, at: u64, buf: &mut [u8]) -> Result<usize, DiskFailed> {
+        self.requests.add_read(file, at, buf.len());
         self.answer()?;
         Ok(7)
     }
 
-    fn write_at(&mut self, _file: u32, _at: u64, _bytes: &[u8]) -> Result<(), DiskFailed> {
+    fn write_at(&mut self, file: u32, at: u64, bytes: &[u8]) -> Result<(), DiskFailed> {
+        self.requests.add_write(file, at, bytes);
         self.answer()
     }
 
-    fn cut(&mut self, _file: u32, _length: u64) -> Result<(), DiskFailed> {
+    fn cut(&mut self, file: u32, length: u64) -> Result<(), DiskFailed> {
+        self.requests.add_cut(file, length);
         self.answer()
     }
 
-    fn sync(&mut self, _file: u32) -> Result<(), DiskFailed> {
+    fn sync(&mut self, file: u32) -> Result<(), DiskFailed> {
+        self.requests.add_sync(file);
         self.answer()
     }
 }
 
 #[test]
 fn a_disk_that_tells_nothing_passes_its_answers(rt: HostRuntime) -> Result<(), Fail> {
-    let mut disk = UntoldDisk::new(Files { calls: 8 });
+    let mut disk = UntoldDisk::new(Files {
+        calls: 8,
+        requests: Requests::new(),
+    });
     run_script(&mut disk)?;
     assert_eq!(rt; disk.len(0), Ok(7));
     assert_eq!(rt; disk.read(0, 0, &mut [0; 3]), Ok(3));

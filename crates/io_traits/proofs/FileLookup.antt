@@ -6,7 +6,8 @@ use Rattle.std.specs.Cmp.Lexicographic.{slice_cmp, nat_list_cmp_total}
 use Rattle.std.specs.FinMap.{find, get, insert, from_entries, same_map, get-insert, get-from_entries, from_entries_push}
 use Rattle.std.proofs.lemmas.List.Quantifiers.{position-Some}
 use Rattle.std.proofs.lemmas.Map.Lookups.{exact_bytes}
-use Rattle.io_traits.specs.Names.{same, same_is, same_itself}
+use Rattle.io_traits.specs.Names.{same}
+use Rattle.io_traits.proofs.Names.{same_is, same_itself}
 use borrow.Author.Tests.{ltb-false}
 
 abbrev pub Entry : Type 0

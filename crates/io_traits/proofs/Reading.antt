@@ -4,7 +4,7 @@ use Rattle.std.proofs.Math.Seq.{take-length}
 use Rattle.std.proofs.lemmas.List.{take-append-drop, take-append-le, take_all, drop-drop, drop_all, length-take, length-take-le}
 
 -- a slice to the end is the whole rest
-rest_whole : (xs : List ℕ) (place : ℕ) → take (length xs - place) (drop place xs) ≡ drop place xs
+pub rest_whole : (xs : List ℕ) (place : ℕ) → take (length xs - place) (drop place xs) ≡ drop place xs
 rest_whole xs place = ap (λ n. take n (drop place xs)) (sym (length-drop place xs)) ∙ take-length (drop place xs)
 
 front_copied : (rest tail : List ℕ) (n : ℕ) → n ≤ length rest → take n (take n rest ++ tail) ≡ take n rest

@@ -35,26 +35,31 @@ abbrev pub bytes_of : Held → List ℕ → List ℕ
 bytes_of s name = unwrap_or (get s.files name) []
 
 -- what stands in an input from its place on
-abbrev pub unread_of : Held → Option (List ℕ × ℕ) → List ℕ
-unread_of s None = []
-unread_of s (Some input) = drop input.1 (bytes_of s input.0)
+abbrev pub unread_bytes_of : Held → Option (List ℕ × ℕ) → List ℕ
+unread_bytes_of s None = []
+unread_bytes_of s (Some input) = drop input.1 (bytes_of s input.0)
 
 -- the bytes of the open input from its place on, as its file reads now; none where no input is open
-abbrev pub unread : Held → List ℕ
-unread s = unread_of s s.input
+abbrev pub unread_bytes : Held → List ℕ
+unread_bytes s = unread_bytes_of s s.input
 
 -- an input whose place is n further
 abbrev pub past : ℕ → List ℕ × ℕ → List ℕ × ℕ
 past n input = (input.0, input.1 + n)
 
 -- the place in the open input is n further
-abbrev pub moved : ℕ → Held → Held
-moved n s = record s { input = option_map (past n) s.input }
+abbrev pub after_reading : ℕ → Held → Held
+after_reading n s = record s { input = option_map (past n) s.input }
 
 -- the host tells that it doesn't hold this name
 abbrev pub IsMissing : Option Held → List ℕ → Type 0
 IsMissing None name = ⊥
 IsMissing (Some s) name = contains_key s.files name ≡ false
+
+-- the host tells that no input is open
+abbrev pub IsClosed : Option Held → Type 0
+IsClosed None = ⊥
+IsClosed (Some s) = s.input ≡ None
 
 -- the host tells that no file is created
 abbrev pub IsIdle : Option Held → Type 0
@@ -74,7 +79,7 @@ pub record Gives (bytes : List ℕ) (n : ℕ) (buf : List ℕ) : Type 0 where
 
 -- n bytes from the place on were given, and the place is past them
 abbrev pub GivesNext : ℕ → List ℕ → Held → Held → Type 0
-GivesNext n buf s t = Gives (unread s) n buf × (t ≡ moved n s)
+GivesNext n buf s t = Gives (unread_bytes s) n buf × (t ≡ after_reading n s)
 
 -- a read that fails does nothing
 abbrev pub ReadsIn : {E : Type 0} → Result ℕ E → List ℕ → Held → Held → Type 0
@@ -92,13 +97,13 @@ Creates name (Ok _) s t = t ≡ record s { files = insert s.files name []; creat
 Creates name (Err _) s t = ChangesOnly name s t × (t.created ≡ None)
 
 -- a file has grown by these bytes
-abbrev pub appended : List ℕ → List ℕ → Held → Held
-appended name bytes s = with_file name (bytes_of s name ++ bytes) s
+abbrev pub with_appended : List ℕ → List ℕ → Held → Held
+with_appended name bytes s = with_file name (bytes_of s name ++ bytes) s
 
 -- the created file has grown by these bytes; with none, nothing was done
 abbrev pub Grows : Option (List ℕ) → List ℕ → Held → Held → Type 0
 Grows None bytes s t = t ≡ s
-Grows (Some name) bytes s t = t ≡ appended name bytes s
+Grows (Some name) bytes s t = t ≡ with_appended name bytes s
 
 -- the created file may have any bytes now or be absent; with none, nothing was done
 abbrev pub Spoils : Option (List ℕ) → Held → Held → Type 0

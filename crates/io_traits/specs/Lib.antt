@@ -1,7 +1,10 @@
-pub mod Causes
-pub mod Told
-pub mod Streams
-pub mod Names
-pub mod Host
-pub mod HostRuns
+pub mod Adapters
 pub mod Calls
+pub mod Causes
+pub mod Host
+pub mod HostAdapter
+pub mod HostRuns
+pub mod Names
+pub mod RawCalls
+pub mod Streams
+pub mod Told

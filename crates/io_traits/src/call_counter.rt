@@ -1,8 +1,8 @@
 //! The calls of an object in memory: how many were made, which are to fail, how many did.
 
 ghost use Rattle.std.specs.Prelude.{◌≡◌, ◌≤◌, IfOk};
-ghost use Rattle.io_traits.specs.Causes.{raised};
-ghost use Rattle.io_traits.specs.Calls.{uncalled, is_due};
+ghost use Rattle.io_traits.specs.Causes.{next_count};
+ghost use Rattle.io_traits.specs.Calls.{no_calls, is_due};
 
 use crate::outside::IoFailed;
 use std::alloc::{AllocError, Global};
@@ -27,7 +27,7 @@ impl Model for CallCounter {
 impl CallCounter {
     /// No call was made; those with these numbers, counted from 1, are to fail.
     pub fn new(alloc: Global, fail: &[u64]) -> Result<Self, AllocError>
-        ensures { IfOk result (λ calls. calls ≡ uncalled fail.now) }
+        ensures { IfOk result (λ calls. calls ≡ no_calls fail.now) }
     {
         Ok(CallCounter {
             made: 0,
@@ -39,7 +39,7 @@ impl CallCounter {
     /// Counts a call, and answers whether it is to fail.
     pub fn count_call(&mut self) -> bool
         ensures due { result ≡ is_due self.old }
-        ensures counted { self.new ≡ record self.old { made = raised self.old.made } }
+        ensures counted { self.new ≡ record self.old { made = next_count self.old.made } }
     {
         self.made = self.made.saturating_add(1);
         self.fail.contains(&self.made)
@@ -47,7 +47,7 @@ impl CallCounter {
 
     /// Counts a fault.
     pub fn count_fault(&mut self) -> IoFailed
-        ensures counted { self.new ≡ record self.old { faults = raised self.old.faults } }
+        ensures counted { self.new ≡ record self.old { faults = next_count self.old.faults } }
         ensures later { self.old.faults ≤ self.new.faults }
     {
         self.faults = self.faults.saturating_add(1);

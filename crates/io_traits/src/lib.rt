@@ -10,10 +10,17 @@ mod mem_host;
 mod mem_sink;
 mod mem_source;
 mod outside;
+mod raw;
 #[cfg(test)]
 mod tests;
+mod through;
+mod untold_host;
+mod untold_streams;
 
 pub use mem_host::MemHost;
 pub use mem_sink::MemSink;
 pub use mem_source::MemSource;
 pub use outside::{Host, IoFailed, Sink, Source};
+pub use raw::{RawError, RawFiles, RawReader, RawWriter};
+pub use untold_host::UntoldHost;
+pub use untold_streams::{UntoldSink, UntoldSource};

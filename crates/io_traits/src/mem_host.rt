@@ -6,8 +6,8 @@ ghost use Rattle.std.specs.Result.{result_unwrap_or};
 ghost use Rattle.std.specs.Io.{ReadsAtMost};
 ghost use Rattle.std.specs.FinMap as map;
 ghost use Rattle.io_traits.specs.Causes.{HasCause};
-ghost use Rattle.io_traits.specs.Host.{unread, holding_nothing, with_file, Opens, ReadsIn, Creates, Writes, Finishes};
-ghost use Rattle.io_traits.specs.Calls.{uncalled, is_due, after_call};
+ghost use Rattle.io_traits.specs.Host.{unread_bytes, holding_nothing, with_file, Opens, ReadsIn, Creates, Writes, Finishes};
+ghost use Rattle.io_traits.specs.Calls.{no_calls, is_due, after_call};
 
 use crate::bytes::Bytes;
 use crate::call_counter::CallCounter;
@@ -39,7 +39,7 @@ impl Model for MemHost {
 impl MemHost {
     /// A host without files, whose calls with the numbers of `fail`, counted from 1, fail.
     pub fn new(alloc: Global, fail: &[u64]) -> Result<MemHost, AllocError>
-        ensures { IfOk result (λ host. host ≡ record { held = holding_nothing; calls = uncalled fail.now }) }
+        ensures { IfOk result (λ host. host ≡ record { held = holding_nothing; calls = no_calls fail.now }) }
     {
         Ok(MemHost {
             alloc,
@@ -112,19 +112,20 @@ impl Host for MemHost {
     fn read_in(&mut self, buf: &mut [u8]) -> Result<usize, IoFailed>
         ensures bound { ReadsAtMost result buf.new }
         ensures held { ReadsIn result buf.new self.old.held self.new.held }
-        ensures full { IfOk result (λ n. n ≡ min (length buf.new) (length (unread self.old.held))) }
+        ensures full { IfOk result (λ n. n ≡ min (length buf.new) (length (unread_bytes self.old.held))) }
         ensures beyond { let count = result_unwrap_or result 0 in
             drop count buf.new ≡ drop count buf.old }
-        ensures fails { IsErr result ↔ IsTrue (is_due self.old.calls) }
+        ensures fails { IsErr result ↔ (IsTrue (is_due self.old.calls) × (self.old.held.input ≢ None)) }
         ensures calls { self.new.calls ≡ after_call self.old.calls (is_err result) }
         ensures cause { HasCause self.old.calls.faults self.new.calls.faults result }
     {
-        if self.calls.count_call() {
-            return Err(self.calls.count_fault());
-        }
+        let is_due = self.calls.count_call();
         let Some((name, place)) = &mut self.input else {
             return Ok(0);
         };
+        if is_due {
+            return Err(self.calls.count_fault());
+        }
         let Some(bytes) = self.files.get(name.as_slice()) else {
             return Ok(0);
         };

@@ -3,7 +3,7 @@
 ghost use Rattle.std.specs.Prelude.{◌≡◌, ◌++◌, [], Some, is_err, IfOk, OnOk, OnErr, IsTrue, IsErr};
 ghost use Rattle.io_traits.specs.Causes.{HasCause};
 ghost use Rattle.io_traits.specs.Streams.{AppendsPart};
-ghost use Rattle.io_traits.specs.Calls.{uncalled, is_due, after_call};
+ghost use Rattle.io_traits.specs.Calls.{no_calls, is_due, after_call};
 
 use crate::bytes::Bytes;
 use crate::call_counter::CallCounter;
@@ -29,7 +29,7 @@ impl Model for MemSink {
 impl MemSink {
     /// An empty sink, whose calls with the numbers of `fail`, counted from 1, fail.
     pub fn new(alloc: Global, fail: &[u64]) -> Result<MemSink, AllocError>
-        ensures { IfOk result (λ sink. sink ≡ record { written = []; calls = uncalled fail.now }) }
+        ensures { IfOk result (λ sink. sink ≡ record { written = []; calls = no_calls fail.now }) }
     {
         Ok(MemSink {
             bytes: Bytes::new(alloc),

@@ -5,7 +5,7 @@ ghost use Rattle.std.specs.Result.{result_unwrap_or};
 ghost use Rattle.std.specs.Io.{ReadsAtMost};
 ghost use Rattle.std.specs.Io.KnownBytes.{ReadConsumes};
 ghost use Rattle.io_traits.specs.Causes.{HasCause};
-ghost use Rattle.io_traits.specs.Calls.{uncalled, is_due, after_call};
+ghost use Rattle.io_traits.specs.Calls.{no_calls, is_due, after_call};
 
 use crate::call_counter::CallCounter;
 use crate::outside::{IoFailed, Source};
@@ -34,7 +34,7 @@ impl Model for MemSource {
 impl MemSource {
     /// A source of these bytes, whose calls with the numbers of `fail`, counted from 1, fail.
     pub fn new(alloc: Global, bytes: &[u8], fail: &[u64]) -> Result<MemSource, AllocError>
-        ensures { IfOk result (λ source. source ≡ record { left = bytes.now; calls = uncalled fail.now }) }
+        ensures { IfOk result (λ source. source ≡ record { left = bytes.now; calls = no_calls fail.now }) }
     {
         Ok(MemSource {
             bytes: Vec::from_slice(alloc, bytes)?,

@@ -1,12 +1,12 @@
 //! The traits, by what their calls do to bytes that are told and to a count of faults.
 
-ghost use Rattle.std.specs.Prelude.{◌≡◌, ◌≤◌, ◌⊎◌, ℕ, List, Option, is_some, IsOk, IsErr, OnOk, OnErr};
+ghost use Rattle.std.specs.Prelude.{◌≡◌, ◌≤◌, ◌⊎◌, ℕ, List, Option, Ok, is_some, IsOk, IsErr, OnOk, OnErr};
 ghost use Rattle.std.specs.Io.{ReadsAtMost};
 ghost use Rattle.std.specs.Io.KnownBytes.{Appends, ReadConsumes};
 ghost use Rattle.io_traits.specs.Causes.{Rose, HasCause};
 ghost use Rattle.io_traits.specs.Streams.{AppendsPart};
 ghost use Rattle.io_traits.specs.Told.{OnTold};
-ghost use Rattle.io_traits.specs.Host.{Held, IsMissing, IsIdle, Opens, ReadsIn, Creates, Writes, Finishes};
+ghost use Rattle.io_traits.specs.Host.{Held, IsMissing, IsClosed, IsIdle, Opens, ReadsIn, Creates, Writes, Finishes};
 
 /// A call failed, and its object counted that.
 #[derive(Clone, Copy, Debug, PartialEq, Eq)]
@@ -17,7 +17,7 @@ pub trait Source {
     /// The bytes that are left, where the source tells them.
     ghost left: { Self → Option (List ℕ) };
 
-    /// How often a call has failed; it stands still at `u64::MAX`.
+    /// How often a call has failed; it stands still at `u64::MAX`, and stays as it is where a call answers Ok.
     ghost faults: { Self → ℕ };
 
     /// Moves the first bytes that are left into the front of `buf`, and answers their number.
@@ -34,7 +34,7 @@ pub trait Sink {
     /// The bytes written so far, where the sink tells them.
     ghost written: { Self → Option (List ℕ) };
 
-    /// How often a call has failed; it stands still at `u64::MAX`.
+    /// How often a call has failed; it stands still at `u64::MAX`, and stays as it is where a call answers Ok.
     ghost faults: { Self → ℕ };
 
     /// Adds all of `bytes`, or fails after some first part of them.
@@ -51,7 +51,7 @@ pub trait Host {
     /// The files, the open input with its place and the created file, where the host tells them.
     ghost held: { Self → Option Held };
 
-    /// How often a call has failed; it stands still at `u64::MAX`.
+    /// How often a call has failed; it stands still at `u64::MAX`, and stays as it is where a call answers Ok.
     ghost faults: { Self → ℕ };
 
     /// Opens a file as the input, at place 0, in place of the input that was open. After a failure
@@ -60,6 +60,7 @@ pub trait Host {
         ensures held { OnTold (held self.old) (held self.new) (Opens name.now result) }
         ensures later { faults self.old ≤ faults self.new }
         ensures failed { OnErr result (IsMissing (held self.old) name.now ⊎ Rose (faults self.old) (faults self.new)) }
+        ensures kept { OnOk result (faults self.new ≡ faults self.old) }
         ensures missing { IsMissing (held self.old) name.now → IsErr result × (faults self.new ≡ faults self.old) };
 
     /// Reads the open input from its place on, and moves the place past what it gave. With no
@@ -67,6 +68,7 @@ pub trait Host {
     fn read_in(&mut self, buf: &mut [u8]) -> Result<usize, IoFailed>
         ensures bound { ReadsAtMost result buf.new }
         ensures held { OnTold (held self.old) (held self.new) (ReadsIn result buf.new) }
+        ensures closed { IsClosed (held self.old) → (result ≡ Ok 0) × (faults self.new ≡ faults self.old) }
         ensures cause { HasCause (faults self.old) (faults self.new) result };
 
     /// Makes the file empty, and it is then the created file. After a failure there is none, and

@@ -1,6 +1,11 @@
-//! Each fake, called through its trait's bound.
+//! Each fake and adapter, called through its trait's bound.
 
-use crate::{Host, IoFailed, MemHost, MemSink, MemSource, Sink, Source};
+ghost use Rattle.std.specs.Prelude.{◌≤◌, None, IfOk};
+
+use crate::{
+    Host, IoFailed, MemHost, MemSink, MemSource, RawError, RawReader, RawWriter, Sink, Source,
+    UntoldSink, UntoldSource,
+};
 use std::alloc::{AllocError, Global};
 use std::test::Fail;
 
@@ -93,30 +98,66 @@ fn a_copy_fails_at_each_call(rt: HostRuntime) {
     }
 }
 
+/// A reader and writer that answers from a list, and then fails.
+#[derive(Drop)]
+struct Script<'a> {
+    answers: &'a [Result<usize, RawError>],
+}
+
+impl<'a> Script<'a> {
+    fn answer(&mut self, most: usize) -> Result<usize, RawError>
+        ensures { IfOk result (λ count. count ≤ most) }
+    {
+        let [answer, rest @ ..] = self.answers else {
+            return Err(RawError::Failed);
+        };
+        self.answers = rest;
+        Ok((*answer)?.min(most))
+    }
+}
+
+impl<'a> RawReader for Script<'a> {
+    ghost reads = { λ _. None };
+
+    ghost name = { λ _. None };
+
+    fn read(&mut self, buf: &mut [u8]) -> Result<usize, RawError> {
+        self.answer(buf.len())
+    }
+}
+
+impl<'a> RawWriter for Script<'a> {
+    ghost writes = { λ _. None };
+
+    ghost name = { λ _. None };
+
+    fn write(&mut self, bytes: &[u8]) -> Result<usize, RawError> {
+        self.answer(bytes.len())
+    }
+}
+
 #[test]
-fn a_host_keeps_one_input_and_one_created_file(rt: HostRuntime) -> Result<(), Fail> {
-    let mut host = MemHost::new(rt.alloc(), &[])?;
-    let mut buf = [0; 8];
-    assert_eq!(rt; host.read_in(&mut buf), Ok(0));
-    assert_eq!(rt; host.write(b"lost"), Ok(()));
-    assert_eq!(rt; host.finish(), Ok(()));
-
-    // The created file is read as it is written.
-    host.put("a", b"xyz")?;
-    assert_eq!(rt; host.open_in("a"), Ok(()));
-    assert_eq!(rt; host.create("a"), Ok(()));
-    assert_eq!(rt; host.read_in(&mut buf), Ok(0));
-    assert_eq!(rt; host.write(b"1234"), Ok(()));
-    let mut front = [0; 3];
-    assert_eq!(rt; host.read_in(&mut front), Ok(3));
-    assert_eq!(rt; front, [b'1', b'2', b'3']);
-    assert_eq!(rt; host.finish(), Ok(()));
-    assert_eq!(rt; host.write(b"5"), Ok(()));
-    assert_eq!(rt; host.get("a"), Some(b"1234".as_slice()));
-
-    // A missing name leaves no input open.
-    assert_eq!(rt; host.get("b"), None);
-    assert_eq!(rt; host.open_in("b"), Err(IoFailed));
-    assert_eq!(rt; host.read_in(&mut buf), Ok(0));
-    Ok(())
+fn raw_calls_are_made_again_after_a_signal(rt: HostRuntime) {
+    use RawError::{Failed, Interrupted};
+    let mut source = UntoldSource::new(Script {
+        answers: &[
+            Err(Interrupted),
+            Err(Interrupted),
+            Ok(2),
+            Err(Failed),
+            Ok(0),
+        ],
+    });
+    let mut buf = [0; 3];
+    assert_eq!(rt; read(&mut source, &mut buf), Ok(2));
+    assert_eq!(rt; read(&mut source, &mut buf), Err(IoFailed));
+    assert_eq!(rt; read(&mut source, &mut buf), Ok(0));
+    for (answers, want) in [
+        ([Ok(2), Err(Interrupted), Ok(9)], Ok(())),
+        ([Ok(4), Ok(0), Ok(1)], Err(IoFailed)),
+        ([Ok(4), Err(Failed), Ok(1)], Err(IoFailed)),
+    ] {
+        let mut sink = UntoldSink::new(Script { answers: &answers });
+        assert_eq!(rt; write(&mut sink, b"abcde"), want);
+    }
 }

@@ -1,6 +1,6 @@
 use Rattle.std.proofs.Common.{◌≤◌, [], ◌∷◌, length, arith, ◌∙◌}
 use Rattle.disk_model.specs.Disk.{changed_at, written}
-use Rattle.disk_model.specs.Moments.{changed_here, told_after, so_far_leaves, quiet_none, quiet_call}
+use Rattle.disk_model.proofs.Moments.{changed_here, told_after, so_far_leaves, quiet_none, quiet_call}
 use Rattle.batch_log.specs.Records.{SameLog}
 use Rattle.batch_log.proofs.Opens.{first, held, looked, wrote, synced, made, stayed, one_gate, Tiny}
 use Rattle.batch_log.proofs.opening.begin.Goals as goal

@@ -1,7 +1,7 @@
 -- One gate after the other: the records before it, what stands there, and what was read so far.
 use Rattle.std.proofs.Common.{length, drop, arith, ◌∙◌, subst, ap}
 use Rattle.std.proofs.lemmas.List.{length-drop}
-use Rattle.disk_model.specs.Moments.{quiet_then}
+use Rattle.disk_model.proofs.Moments.{quiet_then}
 use Rattle.batch_log.specs.Opening.{IsHead}
 use Rattle.batch_log.proofs.GateByGate.{found_damage, found_open, read_up_to, read_one_more, before_push}
 use Rattle.batch_log.proofs.opening.find_places.Goals as goal

@@ -1,7 +1,7 @@
 use Rattle.std.proofs.Common.{arith, ◌≡◌, length, drop}
 use Rattle.std.specs.Prelude.{min}
 use Rattle.std.proofs.lemmas.List.{length-drop}
-use Rattle.disk_model.specs.Moments.{quiet_none, quiet_call}
+use Rattle.disk_model.proofs.Moments.{quiet_none, quiet_call}
 use Rattle.batch_log.proofs.gates.Head.read.Goals as goal
 
 pub returns-clause-head : goal.returns-clause-head

@@ -2,7 +2,7 @@ use Rattle.std.proofs.Common.{ap, sym, ◌∙◌}
 use Rattle.std.specs.FinMap.{insert}
 use Rattle.std.specs.Option.{option_copied_mut}
 use Rattle.disk_model.specs.Disk.{written}
-use Rattle.disk_model.specs.Moments.{on_ok, on_err}
+use Rattle.disk_model.proofs.Moments.{on_ok, on_err}
 use Rattle.disk_model.proofs.Lookups.{files, files-updates, bytes-found, written_through, put_back, bytes-absent}
 use Rattle.disk_model.proofs.image.Image.write_at.Goals as goal
 

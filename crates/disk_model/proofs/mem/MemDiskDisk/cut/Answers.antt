@@ -2,7 +2,7 @@ use Rattle.std.proofs.Common.{refl, ap, ◌∙◌}
 use Rattle.std.specs.Prelude.{Some, ℕ, List, take}
 use Rattle.disk_model.specs.Disk.{At, Cut as CutStep}
 use Rattle.disk_model.specs.Image.{bytes_in}
-use Rattle.disk_model.specs.Moments.{changed_else}
+use Rattle.disk_model.proofs.Moments.{changed_else}
 use Rattle.disk_model.specs.declared.call.Request.TheVariants.{Cut}
 use Rattle.disk_model.proofs.Follows.{none_at, no_cut}
 use Rattle.disk_model.proofs.Current.{bytes_in-cut}

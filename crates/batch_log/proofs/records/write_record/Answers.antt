@@ -2,10 +2,10 @@
 use Rattle.std.proofs.Common.{◌∙◌, ap, subst, refl, arith}
 use Rattle.std.specs.Prelude.{List, ℕ, ◌∷◌, [], ◌+◌, length}
 use Rattle.disk_model.specs.Disk.{Only, written, changed_at}
-use Rattle.disk_model.specs.Moments.{changed_here, told_after, on_ok, so_far_leaves}
+use Rattle.disk_model.proofs.Moments.{changed_here, told_after, on_ok, so_far_leaves}
 use Rattle.batch_log.specs.Records.{WithOrWithout}
 use Rattle.batch_log.proofs.RecordWrites.{first, second, third, fourth, put_there, Within, none_within, wrote_within, synced_within}
-use Rattle.batch_log.proofs.writing.write_record.Goals as goal
+use Rattle.batch_log.proofs.records.write_record.Goals as goal
 
 pub returns-in_err-write_at-clause-any_moment : goal.returns-in_err-write_at-clause-any_moment
 returns-in_err-write_at-clause-any_moment g c ps p ends fits spelled holds =

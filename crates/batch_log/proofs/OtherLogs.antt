@@ -2,7 +2,7 @@
 use Rattle.std.specs.Prelude.{◌≡◌, ◌≢◌, ℕ, List, Option, Some, None, refl}
 use Rattle.std.proofs.Common.{subst, sym, ap, ◌∙◌}
 use Rattle.disk_model.specs.Disk.{Image, At, Leaves, OthersKept}
-use Rattle.disk_model.specs.Moments.{IsSinceEarlier, elsewhere}
+use Rattle.disk_model.proofs.Moments.{IsSinceEarlier, elsewhere}
 use Rattle.batch_log.specs.Records.{EndsClosed, HoldsLog}
 use Rattle.batch_log.specs.OpenLog.{OpenLog, Stands}
 

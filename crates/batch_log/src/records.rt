@@ -1,15 +1,34 @@
-//! How a record is written.
+//! The bytes of a record, and the device calls that write it.
 
 ghost use Rattle.std.specs.Prelude.{◌≡◌, ◌+◌, ◌^◌, ◌≤◌, ◌<◌, ℕ, List, [], ◌∷◌, ◌++◌, length, OnOk, OnErr, option_map, vec_capacity};
 ghost use Rattle.disk_model.specs.Disk.{At, Torn, Leaves, Only, Told, OthersKept, HasCause, changed_at, written};
-ghost use Rattle.batch_log.specs.Records.{body, records, WithOrWithout, HoldsLog};
+ghost use Rattle.batch_log.specs.Records.{body, payload_in, records, WithOrWithout, HoldsLog};
 
 use disk_model::{Disk, DiskFailed};
 use std::alloc::AllocError;
 
+/// The length of the payload in a buffer with room around it.
+pub(crate) fn payload_len(framed: &[u8]) -> usize
+    requires { 5 ≤ length framed.now }
+    ensures { result ≡ length (payload_in framed.now) }
+{
+    framed.len() - 5
+}
+
+/// Puts the length before a payload, and a closed gate behind it, where the buffer has room for them.
+pub(crate) fn frame(framed: &mut [u8])
+    requires room { 5 ≤ length framed.old }
+    requires short { length (payload_in framed.old) < 2 ^ 32 }
+    ensures { framed.new ≡ body (payload_in framed.old) ++ 0 ∷ [] }
+{
+    let gate = framed.len() - 1;
+    framed[..4].copy_from_slice(&((gate - 4) as u32).to_le_bytes());
+    framed[gate] = 0;
+}
+
 /// Sets a buffer to what stands behind the gate of a payload, and the next gate, closed. It takes memory only where the
 /// buffer is too small.
-pub fn spell(buffer: &mut Vec<u8>, payload: &[u8]) -> Result<(), AllocError>
+pub(crate) fn spell(buffer: &mut Vec<u8>, payload: &[u8]) -> Result<(), AllocError>
     requires { length payload.now < 2 ^ 32 }
     ensures ok { OnOk result (buffer.new.items ≡ body payload.now ++ 0 ∷ []) }
     ensures capacity { vec_capacity buffer.old ≤ vec_capacity buffer.new }
@@ -24,7 +43,7 @@ pub fn spell(buffer: &mut Vec<u8>, payload: &[u8]) -> Result<(), AllocError>
 }
 
 /// Writes a record behind the closed gate at `end`, and opens that gate once all behind it is durable.
-pub fn write_record<D: Disk>(
+pub(crate) fn write_record<D: Disk>(
     disk: &mut D,
     file: u32,
     end: u64,

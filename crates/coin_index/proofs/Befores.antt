@@ -3,10 +3,10 @@ use Rattle.std.proofs.Common.{◌≡◌, ◌≢◌, ◌++◌, ◌<◌, ◌≤◌
 use Rattle.std.specs.Ordering.{nat_cmp}
 use Rattle.std.specs.FinMap.{FinMap, get, len}
 use Rattle.slot_pool.specs.Slots.{first_or, last_or, IsIn, IsDistinct}
-use Rattle.slot_pool.specs.SlotLaws.{in_middle, distinct_right, one_place, last-append}
+use Rattle.slot_pool.proofs.SlotLaws.{in_middle, distinct_right, one_place, last-append}
 use Rattle.base_types.specs.declared.hash.OutPoint.{OutPoint}
 use Rattle.coin_index.specs.Index.{AreChained}
-use Rattle.coin_index.specs.IndexLaws.{same_chain}
+use Rattle.coin_index.proofs.IndexLaws.{same_chain}
 use Rattle.coin_index.proofs.Chains.{ahead, ahead-chain, chain_short}
 
 module _ {T : Type 0} (key : T → OutPoint) (chain : T → Option ℕ) (m : FinMap nat_cmp T) (slot : ℕ) where

@@ -3,7 +3,7 @@ use Rattle.std.proofs.Common.{◌≡◌, inl, inr, ◌≤◌, ℕ, zero, suc, tr
 use Rattle.std.specs.Ordering.{nat_cmp}
 use Rattle.std.specs.FinMap.{FinMap, get, insert, len}
 use Rattle.slot_pool.specs.Slots.{first_or, IsIn, IsDistinct}
-use Rattle.slot_pool.specs.SlotLaws.{get_off, pigeon}
+use Rattle.slot_pool.proofs.SlotLaws.{get_off, pigeon}
 use Rattle.base_types.specs.declared.hash.OutPoint.{OutPoint}
 use Rattle.coin_index.specs.Index.{AreChained}
 

@@ -8,7 +8,7 @@ use Rattle.base_types.specs.declared.hash.OutPoint.{OutPoint}
 use Rattle.coin_index.specs.declared.index.Index.{Index}
 use Rattle.coin_index.specs.Hash.{bucket_of}
 use Rattle.coin_index.specs.Index.{AreChained, IsIndex}
-use Rattle.coin_index.specs.IndexLaws.{get_or-map_first, chains_count, bucket_same}
+use Rattle.coin_index.proofs.IndexLaws.{get_or-map_first, chains_count, bucket_same}
 use Rattle.coin_index.proofs.Chains.{ahead, ahead-chain, chain_short}
 
 none_of : (o : Option ℕ) → ((s : ℕ) → o ≡ Some s → ⊥) → None ≡ o

@@ -6,14 +6,14 @@ use Rattle.std.specs.Ordering.{nat_cmp}
 use Rattle.std.specs.FinMap.{FinMap, get, insert}
 use Rattle.slot_pool.specs.Pool.{Contents, with_value}
 use Rattle.slot_pool.specs.Slots.{first_or, IsIn, IsDistinct}
-use Rattle.slot_pool.specs.SlotLaws.{get_here, get_off}
+use Rattle.slot_pool.proofs.SlotLaws.{get_here, get_off}
 use Rattle.base_types.specs.Keys.{outpoint_cmp}
 use Rattle.base_types.specs.declared.hash.OutPoint.{OutPoint}
 use Rattle.base_types.specs.declared.program.Salt.{Salt}
 use Rattle.coin_index.specs.declared.index.Index.{Index}
 use Rattle.coin_index.specs.Hash.{bucket_of}
 use Rattle.coin_index.specs.Index.{AreChained, IsIndex}
-use Rattle.coin_index.specs.IndexLaws.{same_key_or_not, found_here, found_off, get_or-map_first, chains_count}
+use Rattle.coin_index.proofs.IndexLaws.{same_key_or_not, found_here, found_off, get_or-map_first, chains_count}
 use Rattle.coin_index.proofs.Chains.{chained_off}
 
 module _ {T : Type 0} (key : T → OutPoint) (chain : T → Option ℕ) (with : T → Option ℕ → T) (set' : (x : T) (n : Option ℕ) → chain (with x n) ≡ n) (kept : (x : T) (n : Option ℕ) → key (with x n) ≡ key x)

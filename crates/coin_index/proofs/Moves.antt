@@ -9,7 +9,7 @@ use Rattle.base_types.specs.declared.hash.OutPoint.{OutPoint}
 use Rattle.coin_index.specs.declared.index.Index.{Index}
 use Rattle.coin_index.specs.Hash.{bucket_of}
 use Rattle.coin_index.specs.Index.{AreChained, IsIndex}
-use Rattle.coin_index.specs.IndexLaws.{same_key_or_not, found_here, found_off, gone_here, gone_off, same_found, index_kept, found_held, get_or-map_first, chains_count}
+use Rattle.coin_index.proofs.IndexLaws.{same_key_or_not, found_here, found_off, gone_here, gone_off, same_found, index_kept, found_held, get_or-map_first, chains_count}
 use Rattle.coin_index.specs.Rehash.{IsSplit, AreSplit}
 use Rattle.coin_index.proofs.Chains.{ahead, ahead-chain, chain_short}
 use Rattle.coin_index.proofs.Unlinks.{past_first, unlinked}

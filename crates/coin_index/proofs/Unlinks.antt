@@ -1,19 +1,19 @@
 -- A slot is taken out of its bucket's chain.
 use Rattle.std.proofs.Common.{◌≡◌, ◌≢◌, ◌⊎◌, inl, inr, ◌++◌, ◌<◌, ℕ, List, [], ◌∷◌, length, get_or, set, Option, Some, None, refl, sym, ap, ◌∙◌, subst, arith, length-set}
 use Rattle.std.proofs.lemmas.Bool.{cases_eq}
-use Rattle.std.proofs.lemmas.List.{map-set, get_or-set_same, get_or-set_other, set-get_or}
+use Rattle.std.proofs.lemmas.List.{get_or_default, map-set, get_or-set_same, get_or-set_other, set-get_or}
 use Rattle.std.specs.Ordering.{nat_cmp}
 use Rattle.std.specs.FinMap.{FinMap, get, insert, remove}
 use Rattle.slot_pool.specs.Pool.{Contents, with_value}
 use Rattle.slot_pool.specs.Slots.{first_or, last_or, IsIn, IsDistinct}
-use Rattle.slot_pool.specs.SlotLaws.{get_here, get_off, in_left, in_middle, cut_at, in_without, in_but, not_left, distinct_without, first_some, empty_last, some_last}
+use Rattle.slot_pool.proofs.SlotLaws.{get_here, get_off, in_left, in_middle, cut_at, in_without, in_but, not_left, distinct_without, first_some, empty_last, some_last}
 use Rattle.base_types.specs.Keys.{outpoint_cmp}
 use Rattle.base_types.specs.declared.hash.OutPoint.{OutPoint}
 use Rattle.base_types.specs.declared.program.Salt.{Salt}
 use Rattle.coin_index.specs.declared.index.Index.{Index}
 use Rattle.coin_index.specs.Hash.{bucket_of}
 use Rattle.coin_index.specs.Index.{AreChained, IsIndex}
-use Rattle.coin_index.specs.IndexLaws.{same_key_or_not, gone_here, gone_off, get_or-map_first, chains_count}
+use Rattle.coin_index.proofs.IndexLaws.{same_key_or_not, gone_here, gone_off, get_or-map_first, chains_count}
 use Rattle.coin_index.proofs.Chains.{chained_off}
 
 module _ {T : Type 0} (key : T → OutPoint) (chain : T → Option ℕ) where
@@ -140,7 +140,13 @@ module _ {T : Type 0} (key : T → OutPoint) (chain : T → Option ℕ) where
 
     -- the whole call, from what its steps say
     module _ (p : Contents T) (i : Index) (found : FinMap outpoint_cmp ℕ) (h : IsIndex key chain p.values i found) (slot b : ℕ) (x : T) (at : get p.values slot ≡ Some x) (is_found : get found (key x) ≡ Some slot)
-        (is : b ≡ bucket_of i.salt (length i.buckets.items) (key x)) (below : b < length i.buckets.items) (head : Option ℕ) (head_is : head ≡ get_or i.buckets.items b None) where
+        (y : T) (got : get p.values slot ≡ Some y) (k : OutPoint) (k_is : k ≡ key y) (bucket_is : b ≡ bucket_of i.salt (length i.buckets.items) k) (below : b < length i.buckets.items) (head : Option ℕ) (head_at : head ≡ get_or i.buckets.items b head) where
+      is : b ≡ bucket_of i.salt (length i.buckets.items) (key x)
+      is = let same : y ≡ x = cc (got, at) in bucket_is ∙ ap (bucket_of i.salt (length i.buckets.items)) (k_is ∙ ap key same)
+
+      head_is : head ≡ get_or i.buckets.items b None
+      head_is = head_at ∙ get_or_default i.buckets.items b head None below
+
       pub asks : (xs ys : List ℕ) × AreChained key chain p.values (xs ++ slot ∷ ys) × IsDistinct (xs ++ slot ∷ ys) × (head ≡ first_or None (xs ++ slot ∷ ys)) × (get_or h.chains b [] ≡ xs ++ slot ∷ ys)
       asks =
           let c = parts p.values i found h slot b x at is_found is below in (
@@ -152,23 +158,29 @@ module _ {T : Type 0} (key : T → OutPoint) (chain : T → Option ℕ) where
             c.2,
           )
 
-      pub last_there : (t : ℕ) → Some t ≡ last_or None asks.0 → (y : T) × (get p.values t ≡ Some y)
-      last_there t e = let s = some_last asks.0 t (sym e) in value_of p.values s.0 t (slot ∷ asks.1) (subst (λ l. AreChained key chain p.values (l ++ slot ∷ asks.1)) s.1 asks.2)
+      -- what `before` answers
+      abbrev pub Before : Option ℕ → Type 0
+      Before o = (xs ys : List ℕ) → AreChained key chain p.values (xs ++ slot ∷ ys) → IsDistinct (xs ++ slot ∷ ys) → head ≡ first_or None (xs ++ slot ∷ ys) → o ≡ last_or None xs
 
-      pub unlinked_first : None ≡ last_or None asks.0 → (next : Option ℕ) → next ≡ chain x → (j : Index) → j.buckets.items ≡ set i.buckets.items b next → j.salt ≡ i.salt → IsIndex key chain p.values j (remove found (key x))
-      unlinked_first e next ne j items salt =
+      pub last_there : (o : Option ℕ) (t : ℕ) → o ≡ Some t → Before o → (z : T) × (get p.values t ≡ Some z)
+      last_there o t is_t before = let e = sym is_t ∙ before asks.0 asks.1 asks.2 asks.3 asks.4 in let s = some_last asks.0 t (sym e) in value_of p.values s.0 t (slot ∷ asks.1) (subst (λ l. AreChained key chain p.values (l ++ slot ∷ asks.1)) s.1 asks.2)
+
+      pub unlinked_first : (o : Option ℕ) → o ≡ None → Before o → (z : T) → get p.values slot ≡ Some z → (next : Option ℕ) → next ≡ chain z → (j : Index) → j.buckets.items ≡ set i.buckets.items b next → j.salt ≡ i.salt → IsIndex key chain p.values j (remove found (key x))
+      unlinked_first o none' before z got' next next_is j items salt =
+          let e = sym none' ∙ before asks.0 asks.1 asks.2 asks.3 asks.4 in let one : z ≡ x = cc (got', at) in let ne = next_is ∙ ap chain one in
           let none = empty_last asks.0 (sym e) in let ys = asks.1 in
           let all : AreChained key chain p.values (slot ∷ ys) = subst (λ l. AreChained key chain p.values (l ++ slot ∷ ys)) none asks.2 in
           let link : next ≡ first_or None ys = ne ∙ link_of p.values [] slot ys x at all in
           unlinked p.values i found h slot b x at is_found is below p.values [] ys (asks.5 ∙ ap (λ l. l ++ slot ∷ ys) none) (past_first p.values slot ys all) j (items ∙ ap (set i.buckets.items b) link) salt
 
-      pub unlinked_next : (t : ℕ) → Some t ≡ last_or None asks.0 → (y : T) → get p.values t ≡ Some y → (next : Option ℕ) → next ≡ chain x → (n : Contents T) → n ≡ with_value p t (with y next) → IsIndex key chain n.values i (remove found (key x))
-      unlinked_next t e y yt next ne n ns =
+      pub unlinked_next : (o : Option ℕ) (t : ℕ) → o ≡ Some t → Before o → (z : T) → get p.values slot ≡ Some z → (next : Option ℕ) → next ≡ chain z → (n : Contents T) → ((v : T) → get p.values t ≡ Some v → n ≡ with_value p t (with v next)) → IsIndex key chain n.values i (remove found (key x))
+      unlinked_next o t is_t before z got' next next_is n set_is =
+          let e = sym is_t ∙ before asks.0 asks.1 asks.2 asks.3 asks.4 in let one : z ≡ x = cc (got', at) in let ne = next_is ∙ ap chain one in let v = last_there o t is_t before in let ns = set_is v.0 v.1 in
           let s = some_last asks.0 t (sym e) in let us = s.0 in let ys = asks.1 in
           let all : AreChained key chain p.values ((us ++ t ∷ []) ++ slot ∷ ys) = subst (λ l. AreChained key chain p.values (l ++ slot ∷ ys)) s.1 asks.2 in
           let apart : IsDistinct ((us ++ t ∷ []) ++ slot ∷ ys) = subst (λ l. IsDistinct (l ++ slot ∷ ys)) s.1 asks.3 in
           let link : next ≡ first_or None ys = ne ∙ link_of p.values (us ++ t ∷ []) slot ys x at all in
           let front : get_or i.buckets.items b None ≡ first_or None ((us ++ t ∷ []) ++ ys) = sym head_is ∙ asks.4 ∙ ap (λ l. first_or None (l ++ slot ∷ ys)) s.1 ∙ first_some us t (slot ∷ ys) ys in
           subst (λ (c : Contents T). IsIndex key chain c.values i (remove found (key x))) (sym ns)
-          (unlinked p.values i found h slot b x at is_found is below (insert p.values t (with y next)) (us ++ t ∷ []) ys (asks.5 ∙ ap (λ l. l ++ slot ∷ ys) s.1)
-          (past_next p.values us t slot ys y next yt link apart all) i (sym (ap (set i.buckets.items b) (sym front) ∙ set-get_or i.buckets.items b None)) refl)
+          (unlinked p.values i found h slot b x at is_found is below (insert p.values t (with v.0 next)) (us ++ t ∷ []) ys (asks.5 ∙ ap (λ l. l ++ slot ∷ ys) s.1)
+          (past_next p.values us t slot ys v.0 next v.1 link apart all) i (sym (ap (set i.buckets.items b) (sym front) ∙ set-get_or i.buckets.items b None)) refl)

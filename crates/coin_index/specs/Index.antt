@@ -13,6 +13,10 @@ use Rattle.coin_index.specs.Hash.{bucket_of}
 abbrev pub bucket_count : Index → ℕ
 bucket_count i = vec_len i.buckets
 
+-- the salt of its hash
+abbrev pub salt_of : Index → Salt
+salt_of i = i.salt
+
 -- an index without buckets, which over every pool finds nothing
 abbrev pub IsNew : Index → Salt → Type 0
 IsNew i salt = (i.buckets.items ≡ []) × (i.salt ≡ salt)

@@ -1,4 +1,3 @@
 pub mod Hash
 pub mod Index
-pub mod IndexLaws
 pub mod Rehash

@@ -1,4 +1,4 @@
--- Slots move from the buckets of one index to those of another, over one pool.
+-- Slots move from the buckets of one index to those of another, over one pool. No public clause cites this module.
 use Rattle.std.specs.Prelude.{◌≡◌, ◌⊎◌, ℕ, None, Option}
 use Rattle.std.specs.Ordering.{nat_cmp}
 use Rattle.std.specs.FinMap.{FinMap, get}

@@ -12,8 +12,8 @@ fn fold(a: u64, b: u64) -> u64
     a.wrapping_mul(b) ^ high
 }
 
-// The eight bytes from `at` on as a number, the lowest first.
-fn word(bytes: &[u8; 32], at: usize) -> u64
+/// The eight bytes of a hash from `at` on as a number, the lowest first.
+pub fn word(bytes: &[u8; 32], at: usize) -> u64
     requires { at + 8 ≤ 32 }
     ensures { result ≡ word_at bytes.now at }
 {

@@ -6,7 +6,7 @@ ghost use Rattle.slot_pool.specs.Changes.{ChangesOnly};
 ghost use Rattle.slot_pool.specs.Pool.{with_value};
 ghost use Rattle.slot_pool.specs.Slots.{first_or, last_or, IsDistinct};
 ghost use Rattle.coin_index.specs.Hash.{bucket_of};
-ghost use Rattle.coin_index.specs.Index.{AreChained, IsIndex, IsNew, bucket_count};
+ghost use Rattle.coin_index.specs.Index.{AreChained, IsIndex, IsNew, bucket_count, salt_of};
 ghost use Rattle.coin_index.specs.Rehash.{AreSplit};
 
 use crate::chained::Chained;
@@ -71,6 +71,13 @@ impl Index {
         }
     }
 
+    /// The salt of its hash.
+    pub fn salt(&self) -> Salt
+        ensures { result ≡ salt_of self.now }
+    {
+        self.salt
+    }
+
     // The bucket of a key.
     fn place(&self, key: &OutPoint) -> usize
         requires { 0 < bucket_count self.now }
@@ -87,10 +94,11 @@ impl Index {
         pool: &mut Pool<T>,
         n: u32,
     ) -> Result<(), AllocError>
-        requires { (found : map.FinMap outpoint_cmp Slot) × IsIndex T.key_of T.chain_of pool.old.values self.old found }
-        ensures index { (found : map.FinMap outpoint_cmp Slot) → IsIndex T.key_of T.chain_of pool.old.values self.old found
-            → IsIndex T.key_of T.chain_of pool.new.values self.new found }
-        ensures kept { ChangesOnly T.with_chain pool.old pool.new }
+        requires { (slots : map.FinMap outpoint_cmp Slot) × IsIndex T.key_of T.chain_of pool.old.values self.old slots }
+        ensures index { (slots : map.FinMap outpoint_cmp Slot) → IsIndex T.key_of T.chain_of pool.old.values self.old slots
+            → IsIndex T.key_of T.chain_of pool.new.values self.new slots }
+        ensures changes { ChangesOnly T.with_chain pool.old pool.new }
+        ensures salt { salt_of self.new ≡ salt_of self.old }
         ensures ok { OnOk result ((0 < bucket_count self.new) × (n ≤ bucket_count self.new)) }
         ensures err { OnErr result ((self.new ≡ self.old) × (pool.new ≡ pool.old)) }
     {
@@ -100,40 +108,40 @@ impl Index {
         }
         // Twice as many as are asked for, so that keys that come one by one move seldom.
         let buckets = empty_buckets(self.alloc, (wanted * 2).max(LEAST_BUCKETS))?;
-        let mut grown = Index {
+        let mut target = Index {
             buckets,
             salt: self.salt,
             alloc: self.alloc,
         };
         for b in 0..self.buckets.len() {
-            self.empty_bucket(b, &mut grown, pool);
+            self.empty_bucket(b, &mut target, pool);
         }
-        *self = grown;
+        *self = target;
         Ok(())
     }
 
     // Moves the slots of one bucket to another index.
-    fn empty_bucket<T: Chained>(&mut self, b: usize, grown: &mut Index, pool: &mut Pool<T>)
+    fn empty_bucket<T: Chained>(&mut self, b: usize, target: &mut Index, pool: &mut Pool<T>)
         requires bucket { b < length self.old.buckets.items }
-        requires room { 0 < bucket_count grown.old }
-        requires index { (all : map.FinMap outpoint_cmp Slot) × AreSplit T.key_of T.chain_of pool.old.values self.old grown.old all }
-        ensures index { (all : map.FinMap outpoint_cmp Slot) → AreSplit T.key_of T.chain_of pool.old.values self.old grown.old all
-            → AreSplit T.key_of T.chain_of pool.new.values self.new grown.new all }
-        ensures kept { ChangesOnly T.with_chain pool.old pool.new }
-        ensures emptied { self.new.buckets.items ≡ slice_set self.old.buckets.items b None }
-        ensures grown { bucket_count grown.new ≡ bucket_count grown.old }
+        requires room { 0 < bucket_count target.old }
+        requires index { (all : map.FinMap outpoint_cmp Slot) × AreSplit T.key_of T.chain_of pool.old.values self.old target.old all }
+        ensures index { (all : map.FinMap outpoint_cmp Slot) → AreSplit T.key_of T.chain_of pool.old.values self.old target.old all
+            → AreSplit T.key_of T.chain_of pool.new.values self.new target.new all }
+        ensures changes { ChangesOnly T.with_chain pool.old pool.new }
+        ensures bucket { self.new.buckets.items ≡ slice_set self.old.buckets.items b None }
+        ensures target { (bucket_count target.new ≡ bucket_count target.old) × (salt_of target.new ≡ salt_of target.old) }
     {
         while let Some(slot) = self.buckets[b] {
             self.buckets[b] = pool.get(slot).chain();
-            grown.link(pool, slot);
+            target.link(pool, slot);
         }
     }
 
     /// The slot of the key.
     pub fn find<T: Chained>(&self, pool: &Pool<T>, key: &OutPoint) -> Option<Slot>
-        requires { (found : map.FinMap outpoint_cmp Slot) × IsIndex T.key_of T.chain_of pool.now.values self.now found }
-        ensures { (found : map.FinMap outpoint_cmp Slot) → IsIndex T.key_of T.chain_of pool.now.values self.now found
-            → result ≡ map.get found key.now }
+        requires { (slots : map.FinMap outpoint_cmp Slot) × IsIndex T.key_of T.chain_of pool.now.values self.now slots }
+        ensures { (slots : map.FinMap outpoint_cmp Slot) → IsIndex T.key_of T.chain_of pool.now.values self.now slots
+            → result ≡ map.get slots key.now }
     {
         if self.buckets.is_empty() {
             return None;
@@ -153,14 +161,15 @@ impl Index {
     pub fn link<T: Chained>(&mut self, pool: &mut Pool<T>, slot: Slot)
         requires buckets { 0 < bucket_count self.old }
         requires held { IsSome (map.get pool.old.values slot) }
-        requires index { (found : map.FinMap outpoint_cmp Slot) × IsIndex T.key_of T.chain_of pool.old.values self.old found
-            × ((x : T) → map.get pool.old.values slot ≡ Some x → map.get found (T.key_of x) ≡ None) }
-        ensures index { (found : map.FinMap outpoint_cmp Slot) (x : T) → IsIndex T.key_of T.chain_of pool.old.values self.old found
-            → map.get pool.old.values slot ≡ Some x → map.get found (T.key_of x) ≡ None
-            → IsIndex T.key_of T.chain_of pool.new.values self.new (map.insert found (T.key_of x) slot) }
-        ensures kept { ChangesOnly T.with_chain pool.old pool.new }
+        requires index { (slots : map.FinMap outpoint_cmp Slot) × IsIndex T.key_of T.chain_of pool.old.values self.old slots
+            × ((x : T) → map.get pool.old.values slot ≡ Some x → map.get slots (T.key_of x) ≡ None) }
+        ensures index { (slots : map.FinMap outpoint_cmp Slot) (x : T) → IsIndex T.key_of T.chain_of pool.old.values self.old slots
+            → map.get pool.old.values slot ≡ Some x → map.get slots (T.key_of x) ≡ None
+            → IsIndex T.key_of T.chain_of pool.new.values self.new (map.insert slots (T.key_of x) slot) }
+        ensures changes { ChangesOnly T.with_chain pool.old pool.new }
         ensures others { (s : Slot) → s ≢ slot → map.get pool.new.values s ≡ map.get pool.old.values s }
         ensures buckets { bucket_count self.new ≡ bucket_count self.old }
+        ensures salt { salt_of self.new ≡ salt_of self.old }
     {
         let key = pool.get(slot).key();
         let b = self.place(&key);
@@ -170,13 +179,14 @@ impl Index {
 
     /// Takes the slot away from its key. It takes no memory.
     pub fn unlink<T: Chained>(&mut self, pool: &mut Pool<T>, slot: Slot)
-        requires { (found : map.FinMap outpoint_cmp Slot) × (x : T) × IsIndex T.key_of T.chain_of pool.old.values self.old found
-            × (map.get pool.old.values slot ≡ Some x) × (map.get found (T.key_of x) ≡ Some slot) }
-        ensures index { (found : map.FinMap outpoint_cmp Slot) (x : T) → IsIndex T.key_of T.chain_of pool.old.values self.old found
-            → map.get pool.old.values slot ≡ Some x → map.get found (T.key_of x) ≡ Some slot
-            → IsIndex T.key_of T.chain_of pool.new.values self.new (map.remove found (T.key_of x)) }
-        ensures kept { ChangesOnly T.with_chain pool.old pool.new }
+        requires { (slots : map.FinMap outpoint_cmp Slot) × (x : T) × IsIndex T.key_of T.chain_of pool.old.values self.old slots
+            × (map.get pool.old.values slot ≡ Some x) × (map.get slots (T.key_of x) ≡ Some slot) }
+        ensures index { (slots : map.FinMap outpoint_cmp Slot) (x : T) → IsIndex T.key_of T.chain_of pool.old.values self.old slots
+            → map.get pool.old.values slot ≡ Some x → map.get slots (T.key_of x) ≡ Some slot
+            → IsIndex T.key_of T.chain_of pool.new.values self.new (map.remove slots (T.key_of x)) }
+        ensures changes { ChangesOnly T.with_chain pool.old pool.new }
         ensures buckets { bucket_count self.new ≡ bucket_count self.old }
+        ensures salt { salt_of self.new ≡ salt_of self.old }
     {
         let key = pool.get(slot).key();
         let next = pool.get(slot).chain();

@@ -7,6 +7,7 @@ mod hash;
 mod index;
 
 pub use chained::Chained;
+pub use hash::word;
 pub use index::Index;
 
 #[cfg(test)]

@@ -1,3 +1,4 @@
+pub mod ListLaws
 pub mod Neighbours
 pub mod Pushes
 pub mod Unlinks

@@ -1,9 +1,9 @@
 -- The links of a run of slots: cut, joined, and after a write to one slot.
-use Rattle.std.proofs.Common.{◌≡◌, ◌≢◌, ◌++◌, ℕ, inl, inr, List, [], ◌∷◌, Option, Some, None, IsSome, is_some, refl, sym, ap, ◌∙◌, subst}
+use Rattle.std.proofs.Common.{◌≡◌, ◌≢◌, ◌++◌, ℕ, inl, inr, List, [], ◌∷◌, Option, Some, None, IsSome, is_some, sym, ap, ◌∙◌, subst}
 use Rattle.std.specs.Ordering.{nat_cmp}
 use Rattle.std.specs.FinMap.{FinMap, get, insert}
-use Rattle.slot_pool.specs.Slots.{first_or, last_or, IsIn, IsDistinct}
-use Rattle.slot_pool.specs.SlotLaws.{get_here, get_off, first-append, last-append, some_last, some_first}
+use Rattle.slot_pool.specs.Slots.{first_or, last_or, IsIn}
+use Rattle.slot_pool.proofs.SlotLaws.{get_here, get_off, first-append, some_last, some_first}
 use Rattle.flag_list.specs.declared.linked.Links.{Links}
 use Rattle.flag_list.specs.declared.list.FlagList.{FlagList}
 use Rattle.flag_list.specs.List.{HasLinks, AreLinked, IsList}

@@ -1,9 +1,9 @@
 -- A slot is put at the end of a list.
-use Rattle.std.proofs.Common.{◌≡◌, ◌≢◌, ◌++◌, ℕ, inl, inr, List, [], ◌∷◌, Option, Some, None, refl, sym, ap, ◌∙◌, subst}
+use Rattle.std.proofs.Common.{◌≡◌, ◌≢◌, ◌++◌, ℕ, inl, inr, List, [], ◌∷◌, Some, None, refl, sym, ap, ◌∙◌, subst}
 use Rattle.std.specs.FinMap.{get, insert}
 use Rattle.slot_pool.specs.Pool.{Contents, with_value}
-use Rattle.slot_pool.specs.Slots.{first_or, last_or, IsIn, IsDistinct}
-use Rattle.slot_pool.specs.SlotLaws.{get_off, in_middle, not_before, distinct_push, first-append, last-append, empty_last, some_last}
+use Rattle.slot_pool.specs.Slots.{first_or, IsIn, IsDistinct}
+use Rattle.slot_pool.proofs.SlotLaws.{get_off, in_middle, not_before, distinct_push, first-append, last-append, empty_last, some_last}
 use Rattle.flag_list.specs.declared.linked.Links.{Links}
 use Rattle.flag_list.specs.declared.list.FlagList.{FlagList}
 use Rattle.flag_list.specs.List.{HasLinks, AreLinked, IsList}

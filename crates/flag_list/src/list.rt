@@ -58,7 +58,7 @@ impl FlagList {
         requires out { (ss : List Slot) × IsList T.links_of pool.old.values self.old ss × (¬ IsIn slot ss) }
         ensures list { (ss : List Slot) → IsList T.links_of pool.old.values self.old ss → ¬ IsIn slot ss
             → IsList T.links_of pool.new.values self.new (ss ++ slot ∷ []) }
-        ensures kept { ChangesOnly T.with_links pool.old pool.new }
+        ensures changes { ChangesOnly T.with_links pool.old pool.new }
     {
         let links = Links {
             before: self.last,
@@ -77,7 +77,7 @@ impl FlagList {
         requires { (xs ys : List Slot) × IsList T.links_of pool.old.values self.old (xs ++ slot ∷ ys) }
         ensures list { (xs ys : List Slot) → IsList T.links_of pool.old.values self.old (xs ++ slot ∷ ys)
             → IsList T.links_of pool.new.values self.new (xs ++ ys) }
-        ensures kept { ChangesOnly T.with_links pool.old pool.new }
+        ensures changes { ChangesOnly T.with_links pool.old pool.new }
     {
         let links = pool.get(slot).links();
         match links.before {

@@ -1,7 +1,9 @@
+pub mod ChangeLaws
 pub mod Chunks
 pub mod Claims
 pub mod Layouts
 pub mod Pools
 pub mod Rows
 pub mod Sharing
+pub mod SlotLaws
 pub mod Steps

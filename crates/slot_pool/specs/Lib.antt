@@ -1,5 +1,4 @@
 pub mod CellsLends
-pub mod ChangeLaws
 pub mod Changes
 pub mod Chunk
 pub mod ChunkLends
@@ -8,5 +7,4 @@ pub mod Layout
 pub mod Ownership
 pub mod Pool
 pub mod PoolLends
-pub mod SlotLaws
 pub mod Slots

@@ -1,7 +1,7 @@
-use Rattle.std.proofs.Common.{◌≡◌, ◌∙◌, [], ◌∷◌, is_some, ap}
+use Rattle.std.proofs.Common.{◌∙◌, [], ◌∷◌, is_some, ap}
 use Rattle.std.specs.FinMap.{get}
-use Rattle.slot_pool.specs.SlotLaws.{get_beside, new_apart}
-use Rattle.flag_list.specs.ListLaws.{new_list}
+use Rattle.slot_pool.proofs.SlotLaws.{get_beside, new_apart}
+use Rattle.flag_list.proofs.ListLaws.{new_list}
 use Rattle.flag_list.proofs.Pushes.{out_of_one}
 use Rattle.flag_list.proofs.tests.lists_slots_in_order.Goals as goal
 

@@ -1,4 +1,3 @@
-use Rattle.std.proofs.Common.{◌≡◌, ◌∙◌}
 use Rattle.flag_list.proofs.Neighbours.{member, is_there, neighbours}
 use Rattle.flag_list.proofs.list.FlagList.next.Goals as goal
 

@@ -1,6 +1,6 @@
-use Rattle.std.proofs.Common.{◌≡◌, ◌∙◌, is_some, ap}
-use Rattle.slot_pool.specs.ChangeLaws.{changes_none, changes_one, changes_then}
-use Rattle.slot_pool.specs.SlotLaws.{some_of}
+use Rattle.std.proofs.Common.{◌∙◌, is_some, ap}
+use Rattle.slot_pool.proofs.ChangeLaws.{changes_one, changes_then}
+use Rattle.slot_pool.proofs.SlotLaws.{some_of}
 use Rattle.flag_list.proofs.Pushes.{pushed_first, last_has, pushed_behind}
 use Rattle.flag_list.proofs.list.FlagList.push_back.Goals as goal
 use Rattle.flag_list.proofs.list.FlagList.push_back.Goals.{in-Some, in-None}
@@ -21,8 +21,8 @@ returns-clause-list g c =
       | in-None w ↦ pushed_first T.links_of T.with_links law.links_set p n l ss slot x.0 h out e c.match-self.pool c.match-self.self w.in-None.is w.pool-is w.self-is
     ]
 
-pub returns-clause-kept : goal.returns-clause-kept
-returns-clause-kept g c =
+pub returns-clause-changes : goal.returns-clause-changes
+returns-clause-changes g c =
     let T = g.T.Linked in let law = g.met.T.Linked in let x = some_of _ c.requires.held in let p = c.args.pool.now in let n = c.set_links.new.pool in let k = c.match-self.pool in let slot = c.args.slot in
     let e = c.set_links.ensures x.0 x.1 in let one = changes_one T.links_of T.with_links law.set_own law.set_twice p n slot x.0 _ x.1 e in
     elim c.match-self.branch [

@@ -1,19 +1,20 @@
 -- Laws of an index and its pool.
-use Rattle.std.proofs.Common.{◌≡◌, ◌≢◌, ◌⊎◌, inl, inr, ℕ, zero, suc, cond, List, [], ◌∷◌, map, length, get_or, Option, Some, None, refl, sym, ap, ◌∙◌, subst}
+use Rattle.std.proofs.Common.{◌≡◌, ◌≢◌, ◌⊎◌, inl, inr, ◌<◌, ℕ, zero, suc, cond, List, [], ◌∷◌, map, length, get_or, Option, Some, None, refl, sym, ap, ◌∙◌, subst, arith}
 use Rattle.std.specs.Ordering.{nat_cmp}
 use Rattle.std.specs.FinMap.{FinMap, get, empty, insert, remove, get-empty, get-insert, get-remove, same_map}
 use Rattle.std.proofs.lemmas.Bool.{cases_eq}
-use Rattle.slot_pool.specs.ChangeLaws.{kept_value}
+use Rattle.slot_pool.proofs.ChangeLaws.{kept_value}
 use Rattle.slot_pool.specs.Changes.{ChangesOnly}
 use Rattle.slot_pool.specs.Pool.{Contents}
-use Rattle.slot_pool.specs.SlotLaws.{get_here, get_off, get_beside, removed_off}
+use Rattle.slot_pool.proofs.SlotLaws.{get_here, get_off, get_beside, removed_off}
 use Rattle.slot_pool.specs.Slots.{first_or, IsIn}
-use Rattle.base_types.specs.Keys.{outpoint_cmp, outpoint_cmp_total, outpoint_cmp-IsAntisymmetric, outpoint_ties, tied_same, tied_not, cases_key}
+use Rattle.base_types.specs.Keys.{outpoint_cmp}
+use Rattle.base_types.proofs.KeyOrders.{outpoint_cmp_total, outpoint_cmp-IsAntisymmetric, outpoint_ties, tied_same, tied_not, cases_key}
 use Rattle.base_types.specs.declared.hash.OutPoint.{OutPoint}
 use Rattle.base_types.specs.declared.program.Salt.{Salt}
 use Rattle.coin_index.specs.declared.index.Index.{Index}
 use Rattle.coin_index.specs.Hash.{bucket_of}
-use Rattle.coin_index.specs.Index.{IsNew, AreChained, IsIndex}
+use Rattle.coin_index.specs.Index.{IsNew, AreChained, IsIndex, bucket_count}
 
 -- maps from outpoints
 
@@ -79,6 +80,10 @@ module _ {T : Type 0} (key : T → OutPoint) (chain : T → Option ℕ) where
     pub link_ready : (t : ℕ) (w : T) → get m t ≡ None → get found (key w) ≡ None → (x : T) → get (insert m t w) t ≡ Some x → get found (key x) ≡ None
     link_ready t w new none x e = let one : w ≡ x = cc (get_here m t w, e) in ap (λ y. get found (key y)) (sym one) ∙ none
 
+    -- both, as a pool's `put` gives them
+    pub put_ready : (n : FinMap nat_cmp T) (t : ℕ) (w : T) → get m t ≡ None → get found (key w) ≡ None → n ≡ insert m t w → IsIndex key chain n i found × ((x : T) → get n t ≡ Some x → get found (key x) ≡ None)
+    put_ready n t w new none e = subst (λ (k : FinMap nat_cmp T). IsIndex key chain k i found × ((x : T) → get k t ≡ Some x → get found (key x) ≡ None)) (sym e) (index_put t w new, link_ready t w new none)
+
     -- a value is taken out of a slot that isn't found
     pub index_take : (t : ℕ) → ((k : OutPoint) → get found k ≢ Some t) → IsIndex key chain (remove m t) i found
     index_take t out = index_kept m (remove m t) i found h (λ k s x f e. (x, removed_off m t s (λ g. out k (f ∙ ap Some g)) ∙ e, refl, refl))
@@ -133,9 +138,17 @@ pub length-map_first : (css : List (List ℕ)) → length (map (first_or None) c
 length-map_first [] = refl
 length-map_first (c ∷ css) = ap suc (length-map_first css)
 
+within_bucket : (css : List (List ℕ)) (b s : ℕ) → IsIn s (get_or css b []) → 0 < length css
+within_bucket [] b s i = absurd i
+within_bucket (c ∷ css) b s i = omega arith
+
 module _ {T : Type 0} (key : T → OutPoint) (chain : T → Option ℕ) (m : FinMap nat_cmp T) (i : Index) where
   pub chains_count : (f : FinMap outpoint_cmp ℕ) (h : IsIndex key chain m i f) → length h.chains ≡ length i.buckets.items
   chains_count f h = sym (ap length h.heads ∙ length-map_first h.chains)
+
+  -- an index that finds something has buckets
+  pub found_buckets : (f : FinMap outpoint_cmp ℕ) (h : IsIndex key chain m i f) (k : OutPoint) (s : ℕ) → get f k ≡ Some s → 0 < bucket_count i
+  found_buckets f h k s e = omega (arith, i.buckets.ok.0, chains_count f h, within_bucket h.chains (bucket_of i.salt (length h.chains) k) s (h.present k s e).0)
 
   -- two maps that an index finds have one chain in each bucket
   pub bucket_same : (f g : FinMap outpoint_cmp ℕ) (h : IsIndex key chain m i f) (h' : IsIndex key chain m i g) (b : ℕ) → get_or h'.chains b [] ≡ get_or h.chains b []

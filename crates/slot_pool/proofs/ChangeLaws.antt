@@ -4,7 +4,7 @@ use Rattle.std.proofs.lemmas.Bool.{cases_eq}
 use Rattle.std.specs.FinMap.{get, insert}
 use Rattle.slot_pool.specs.Pool.{Contents, with_value}
 use Rattle.slot_pool.specs.Changes.{SameBut, ChangesOnly}
-use Rattle.slot_pool.specs.SlotLaws.{some_of, get_here, get_off}
+use Rattle.slot_pool.proofs.SlotLaws.{some_of, get_here, get_off}
 
 -- own: a value with its own part is itself. twice: the part that is set last stays
 module _ {T L : Type 0} (part : T → L) (set : T → L → T) (own : (x : T) → set x (part x) ≡ x) (twice : (x : T) (l k : L) → set (set x l) k ≡ set x k) where

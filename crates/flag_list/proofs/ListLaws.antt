@@ -1,16 +1,16 @@
 -- Laws of a list and its pool.
-use Rattle.std.proofs.Common.{◌≡◌, ◌⊎◌, inl, inr, ℕ, true, false, List, [], ◌∷◌, ◌++◌, Option, Some, None, IsSome, is_some, refl, sym, ap, subst, ◌∙◌}
+use Rattle.std.proofs.Common.{◌≡◌, ◌⊎◌, inl, inr, ℕ, true, false, List, [], ◌∷◌, Option, Some, None, IsSome, is_some, refl, sym, ap, subst, ◌∙◌}
 use Rattle.std.specs.Ordering.{nat_cmp}
 use Rattle.std.specs.FinMap.{FinMap, get, insert, remove}
 use Rattle.std.proofs.lemmas.Bool.{cases_eq}
-use Rattle.slot_pool.specs.ChangeLaws.{kept_value}
+use Rattle.slot_pool.proofs.ChangeLaws.{kept_value}
 use Rattle.slot_pool.specs.Changes.{ChangesOnly}
 use Rattle.slot_pool.specs.Pool.{Contents}
-use Rattle.slot_pool.specs.SlotLaws.{get_here, get_off, get_beside, removed_off}
-use Rattle.slot_pool.specs.Slots.{first_or, last_or, IsIn}
+use Rattle.slot_pool.proofs.SlotLaws.{get_here, get_off, get_beside, removed_off}
+use Rattle.slot_pool.specs.Slots.{first_or, IsIn}
 use Rattle.flag_list.specs.declared.linked.Links.{Links}
 use Rattle.flag_list.specs.declared.list.FlagList.{FlagList}
-use Rattle.flag_list.specs.List.{no_list, HasLinks, AreLinked, IsList}
+use Rattle.flag_list.specs.List.{no_list, AreLinked, IsList}
 
 module _ {T : Type 0} (links : T → Links) where
   -- a new list has no slot

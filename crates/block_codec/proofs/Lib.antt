@@ -1,3 +1,8 @@
+pub mod BlockLaws
+pub mod HasText
+pub mod InputLaws
+pub mod Loop
 mod Places
 mod Skips
 mod Stacks
+pub mod TxLaws

@@ -5,14 +5,15 @@ use Rattle.std.proofs.lemmas.List.{append-nil, drop_all}
 use Rattle.std.proofs.Math.Bool.{or-false}
 use Rattle.std.proofs.lemmas.List.Folds.{list_any-append}
 use Rattle.base_types.specs.Reading.{Input, length_at, ◌>>=◌}
-use Rattle.base_types.specs.Codec.{Reader, field, bind_ok, ok_is, many_at}
+use Rattle.base_types.specs.Codec.{Reader, field, many_at}
+use Rattle.base_types.proofs.Codecs.{bind_ok, ok_is}
 use Rattle.base_types.specs.declared.coin.TxOut.{TxOut}
 use Rattle.block_codec.specs.declared.block.TxIn.{TxIn}
 use Rattle.block_codec.specs.Text.{some_witness, with_stack}
 use Rattle.block_codec.specs.Reading.{Wrong, wrong, input_at, output_at, stack_at, stacks_at, lists_at}
 use Rattle.block_codec.specs.Skipping.{Skips, Shows}
-use Rattle.block_codec.specs.Loop as loop
-use Rattle.block_codec.specs.Loop.{with_front}
+use Rattle.block_codec.proofs.Loop as loop
+use Rattle.block_codec.proofs.Loop.{with_front}
 use Rattle.block_codec.proofs.Stacks.{regroup}
 
 -- some members were passed, and so many more make up the whole

@@ -7,7 +7,7 @@ use Rattle.block_codec.specs.declared.fault.BlockFault.{BlockFault}
 use Rattle.block_codec.specs.declared.fault.BlockFault.TheVariants.{NoMemory, Bad}
 use Rattle.block_codec.specs.Text.{with_stack}
 use Rattle.block_codec.specs.Reading.{Wrong, Fails, stack_at, stacks_at}
-use Rattle.block_codec.specs.Loop.{with_front}
+use Rattle.block_codec.proofs.Loop.{with_front}
 
 -- a list at one of its places
 record Split {X : Type 0} (xs : List X) (k : ℕ) : Type 0 where

@@ -3,6 +3,7 @@ use Rattle.std.proofs.Common.{◌≡◌, ℕ, ◌^◌, ◌≤◌, ◌<◌, List,
 use Rattle.std.specs.List.{AllByRecursion}
 use Rattle.std.specs.Int.{w32, w64}
 use Rattle.std.specs.Int.RustNames.{FitsSigned}
+use Rattle.base_types.specs.Parameters.{max_size}
 use Rattle.base_types.specs.declared.coin.TxOut.{TxOut}
 use Rattle.block_codec.specs.declared.block.TxIn.{TxIn}
 use Rattle.block_codec.specs.declared.block.Tx.{Tx}
@@ -10,7 +11,7 @@ use Rattle.block_codec.specs.declared.block.Header.{Header}
 use Rattle.block_codec.specs.declared.block.Block.{Block}
 
 abbrev pub IsLength : ℕ → Type 0
-IsLength n = n ≤ 33554432
+IsLength n = n ≤ max_size
 
 abbrev pub ScriptFits : List ℕ → Type 0
 ScriptFits script = IsLength (length script)

@@ -1,24 +1,32 @@
 -- The frames of a block file.
-use Rattle.std.specs.Prelude.{ℕ, zero, suc, ◌+◌, ◌%◌, Bool, ◌&&◌, List, [], ◌∷◌, length, take, drop, get_or, Some, None, nat_le, if◌then◌else◌, bit_xor, nat_eq}
+use Rattle.std.specs.Prelude.{ℕ, zero, suc, ◌+◌, Bool, ◌&&◌, List, [], ◌∷◌, length, take, drop, Some, None, nat_le, if◌then◌else◌, nat_eq}
 use Rattle.std.specs.declared.option.Option.{Option}
 use Rattle.std.specs.Option.{option_map}
 use Rattle.std.specs.Result.{result_ok}
 use Rattle.std.specs.List.{starts_with}
 use Rattle.std.specs.Int.{w32, from_le_bytes}
+use Rattle.base_types.specs.Obfuscation.{obfuscated}
+use Rattle.base_types.specs.Parameters.{message_start}
 use Rattle.block_codec.specs.declared.block.Block.{Block}
 use Rattle.block_codec.specs.Reading.{block_of}
 
--- regtest's message start, with which each frame begins
-abbrev pub magic : List ℕ
-magic = 0xfa ∷ 0xbf ∷ 0xb5 ∷ 0xda ∷ []
+-- the least length of a frame's block, which is that of its header
+abbrev pub min_frame_size : ℕ
+min_frame_size = 80
 
--- the length that stands behind the magic
+-- the greatest (`MAX_BLOCK_SERIALIZED_SIZE` in Bitcoin Core's `consensus/consensus.h`)
+abbrev pub max_frame_size : ℕ
+max_frame_size = 4000000
+
+-- the length that stands behind the message start
 abbrev pub frame_len : List ℕ → ℕ
 frame_len bytes = from_le_bytes w32 (take 4 (drop 4 bytes))
 
--- whether bytes begin with the magic, a length from 80 to 4,000,000, and that many bytes
+-- whether bytes begin with the message start, the length of a block, and that many bytes
 abbrev pub begins_frame : List ℕ → Bool
-begins_frame bytes = starts_with nat_eq bytes magic && nat_le 80 (frame_len bytes) && nat_le (frame_len bytes) 4000000 && nat_le (8 + frame_len bytes) (length bytes)
+begins_frame bytes =
+    let len = frame_len bytes in
+    starts_with nat_eq bytes message_start && nat_le min_frame_size len && nat_le len max_frame_size && nat_le (8 + len) (length bytes)
 
 -- the block of the frame with which bytes begin, if they begin with one
 unfoldable pub frame_at : List ℕ → Option Block
@@ -37,15 +45,10 @@ frames_after n [] = []
 frames_after (suc n) (byte ∷ bytes) = frames_after n bytes
 frames_after zero (byte ∷ bytes) = found_or (frame_at (byte ∷ bytes)) (frames_after zero bytes) (frames_after (7 + frame_len (byte ∷ bytes)) bytes)
 
--- bytes from an offset on, each with the key's byte at the offset modulo 8 taken off
-abbrev pub unmasked : List ℕ → ℕ → List ℕ → List ℕ
-unmasked key p [] = []
-unmasked key p (byte ∷ bytes) = bit_xor byte (get_or key (p % 8) 0) ∷ unmasked key (suc p) bytes
-
--- the bytes of a file that may be masked with a key of eight bytes
+-- the bytes of a file that may be obfuscated with a key of eight bytes
 abbrev pub plain_bytes : Option (List ℕ) → List ℕ → List ℕ
 plain_bytes None bytes = bytes
-plain_bytes (Some key) bytes = unmasked key 0 bytes
+plain_bytes (Some key) bytes = obfuscated key 0 bytes
 
 -- the blocks of the frames of all bytes of a file
 abbrev pub frames : List ℕ → Option (List ℕ) → List Block

@@ -1,16 +1,12 @@
-pub mod BlockLaws
 pub mod Commitment
 pub mod Encoding
 pub mod Examples
 pub mod Fitting
 pub mod FrameExamples
 pub mod Frames
-pub mod HasText
-pub mod InputLaws
-pub mod Loop
+pub mod Genesis
 pub mod Merkle
 pub mod Reading
 pub mod Skipping
 pub mod Text
-pub mod TxLaws
 pub mod Weight

@@ -5,6 +5,7 @@ use Rattle.std.specs.declared.option.Option.{Option}
 use Rattle.std.specs.List.{flat_map, list_all, list_any}
 use Rattle.std.specs.Int.{w32, w64, cast_unsigned}
 use Rattle.base_types.specs.Bytes.{compact, number_text, hash_twice}
+use Rattle.base_types.specs.Parameters.{max_size}
 use Rattle.base_types.specs.declared.hash.OutPoint.{OutPoint}
 use Rattle.base_types.specs.declared.hash.Hash32.{Hash32}
 use Rattle.base_types.specs.declared.coin.TxOut.{TxOut}
@@ -109,7 +110,7 @@ every (b ∷ bs) = b && every bs
 
 -- a length or a count
 abbrev pub is_length : ℕ → Bool
-is_length n = nat_le n 33554432
+is_length n = nat_le n max_size
 
 abbrev pub is_u32 : ℕ → Bool
 is_u32 n = nat_lt n (2 ^ 32)

@@ -1,16 +1,17 @@
 //! Testing whether bytes are a block, with no memory taken and nothing kept of them.
 
 ghost use Rattle.std.specs.Prelude.{◌≡◌, ◌==◌, ℕ, List, length, not, is_ok};
-ghost use Rattle.base_types.specs.Codec.{many_at};
 ghost use Rattle.block_codec.specs.Reading.{script_at, output_at, input_at, stack_at, stacks_at, lists_at, stripped_at, full_at, flagged_at, tx_at, header_at, block_at, block_of};
 ghost use Rattle.block_codec.specs.Skipping.{Skips, Shows};
 ghost use Rattle.block_codec.specs.Text.{some_witness};
 ghost use Rattle.block_codec.specs.declared.block.TxIn.{TxIn};
 
-use base_types::{Cursor, ReadError};
+use crate::block::{Tx, TxIn};
+use crate::members::skip_many;
+use base_types::{Cursor, ReadError, Script, TxOut};
 
-// Some field is wrong. Which one, and how, only `read_block` says.
-struct Faulty;
+/// Some field is wrong. Which one, and how, only `read_block` says.
+pub(crate) struct Faulty;
 
 impl From<ReadError> for Faulty {
     fn from(_error: ReadError) -> Faulty {
@@ -20,7 +21,7 @@ impl From<ReadError> for Faulty {
 
 // A script, or an item of a witness.
 #[tactic(auto, unfolding(crate::specs::Reading::script_at))]
-fn skip_script(cursor: &mut Cursor<'_>) -> Result<(), Faulty>
+pub(crate) fn skip_script(cursor: &mut Cursor<'_>) -> Result<(), Faulty>
     ensures { Skips result cursor.new (script_at cursor.old) }
 {
     let len = cursor.compact_len()?;
@@ -29,7 +30,7 @@ fn skip_script(cursor: &mut Cursor<'_>) -> Result<(), Faulty>
 }
 
 #[tactic(auto, unfolding(crate::specs::Reading::output_at))]
-fn skip_output(cursor: &mut Cursor<'_>) -> Result<(), Faulty>
+pub(crate) fn skip_output(cursor: &mut Cursor<'_>) -> Result<(), Faulty>
     ensures { Skips result cursor.new (output_at cursor.old) }
 {
     cursor.u64()?;
@@ -37,7 +38,7 @@ fn skip_output(cursor: &mut Cursor<'_>) -> Result<(), Faulty>
 }
 
 #[tactic(auto, unfolding(crate::specs::Reading::input_at))]
-fn skip_input(cursor: &mut Cursor<'_>) -> Result<(), Faulty>
+pub(crate) fn skip_input(cursor: &mut Cursor<'_>) -> Result<(), Faulty>
     ensures { Skips result cursor.new (input_at cursor.old) }
 {
     // The outpoint.
@@ -54,35 +55,8 @@ fn skip_stack(cursor: &mut Cursor<'_>) -> Result<bool, Faulty>
     ensures { Shows (λ has_item stack. has_item ≡ not (length stack == 0)) result cursor.new (stack_at cursor.old) }
 {
     let count = cursor.compact_len()?;
-    skip_items(count, cursor)?;
+    skip_many::<Script>(count, cursor)?;
     Ok(count != 0)
-}
-
-fn skip_items(count: usize, cursor: &mut Cursor<'_>) -> Result<(), Faulty>
-    ensures { Skips result cursor.new (many_at script_at count cursor.old) }
-{
-    for _ in 0..count {
-        skip_script(cursor)?;
-    }
-    Ok(())
-}
-
-fn skip_outputs(count: usize, cursor: &mut Cursor<'_>) -> Result<(), Faulty>
-    ensures { Skips result cursor.new (many_at output_at count cursor.old) }
-{
-    for _ in 0..count {
-        skip_output(cursor)?;
-    }
-    Ok(())
-}
-
-fn skip_inputs(count: usize, cursor: &mut Cursor<'_>) -> Result<(), Faulty>
-    ensures { Skips result cursor.new (many_at input_at count cursor.old) }
-{
-    for _ in 0..count {
-        skip_input(cursor)?;
-    }
-    Ok(())
 }
 
 // A stack for each of so many inputs. Whether one of them has an item.
@@ -101,9 +75,9 @@ fn skip_stacks(count: usize, cursor: &mut Cursor<'_>) -> Result<bool, Faulty>
 fn skip_lists(count: usize, cursor: &mut Cursor<'_>) -> Result<(), Faulty>
     ensures { Skips result cursor.new (lists_at count cursor.old) }
 {
-    skip_inputs(count, cursor)?;
+    skip_many::<TxIn>(count, cursor)?;
     let count = cursor.compact_len()?;
-    skip_outputs(count, cursor)
+    skip_many::<TxOut>(count, cursor)
 }
 
 // The form without witness, behind the number of inputs.
@@ -147,7 +121,7 @@ fn skip_flagged(cursor: &mut Cursor<'_>) -> Result<(), Faulty>
 }
 
 #[tactic(auto, unfolding(crate::specs::Reading::tx_at))]
-fn skip_tx(cursor: &mut Cursor<'_>) -> Result<(), Faulty>
+pub(crate) fn skip_tx(cursor: &mut Cursor<'_>) -> Result<(), Faulty>
     ensures { Skips result cursor.new (tx_at cursor.old) }
 {
     cursor.u32()?;
@@ -157,15 +131,6 @@ fn skip_tx(cursor: &mut Cursor<'_>) -> Result<(), Faulty>
     } else {
         skip_stripped(count, cursor)
     }
-}
-
-fn skip_txs(count: usize, cursor: &mut Cursor<'_>) -> Result<(), Faulty>
-    ensures { Skips result cursor.new (many_at tx_at count cursor.old) }
-{
-    for _ in 0..count {
-        skip_tx(cursor)?;
-    }
-    Ok(())
 }
 
 #[tactic(auto, unfolding(crate::specs::Reading::header_at))]
@@ -189,7 +154,7 @@ fn skip_block(cursor: &mut Cursor<'_>) -> Result<(), Faulty>
 {
     skip_header(cursor)?;
     let count = cursor.compact_len()?;
-    skip_txs(count, cursor)
+    skip_many::<Tx>(count, cursor)
 }
 
 /// Whether the bytes are the text of a block, so that `read_block` reads them unless memory runs out. It takes no memory

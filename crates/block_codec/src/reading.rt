@@ -1,16 +1,18 @@
 //! Reading blocks.
 
-ghost use Rattle.std.specs.Prelude.{◌≡◌, ◌<◌, ◌-◌, ◌/◌, min, ℕ, length, Ok, Err, IfOk, Some};
+ghost use Rattle.std.specs.Prelude.{◌≡◌, ℕ, length, Ok, Err, IfOk, Some};
 ghost use Rattle.std.specs.Int.{w32, w64};
-ghost use Rattle.base_types.specs.Reading.{place, byte_at, bytes_at, number_at, length_at};
-ghost use Rattle.base_types.specs.Codec.{field, renamed, many_at};
+ghost use Rattle.base_types.specs.Reading.{byte_at, bytes_at, number_at, length_at};
+ghost use Rattle.base_types.specs.Codec.{field, renamed};
 ghost use Rattle.block_codec.specs.Reading.{Wrong, wrong, Answers, Reads, ReadsAs, Fails, script_at, output_at, input_at, stack_at, stacks_at, lists_at, ended_at, stripped_at, full_at, flagged_at, tx_at, header_at, block_at, block_of};
 ghost use Rattle.block_codec.specs.Text.{text_of};
 ghost use Rattle.block_codec.specs.declared.block.Block.{Block};
 
-use crate::block::{Block, Header, Inputs, Outputs, Stack, Tx, TxIn, Txs};
+use crate::block::{Block, Header, Inputs, Outputs, Stack, Tx, TxIn};
 use crate::fault::{BlockError, BlockFault};
-use base_types::{Cursor, Hash32, OutPoint, ReadError, Script, TxOut};
+use crate::members::read_many;
+use crate::witness::some_witness;
+use base_types::{Cursor, Hash32, List, OutPoint, ReadError, Script, TxOut};
 use std::alloc::Global;
 
 // The least bytes of an item of a witness, an output, an input and a transaction.
@@ -90,16 +92,8 @@ fn hash_of(cursor: &mut Cursor<'_>) -> Result<Hash32, BlockFault>
     }
 }
 
-// How many members of at least this many bytes, of so many that are said to follow, can follow.
-fn room_for(cursor: &Cursor<'_>, count: usize, least_len: usize) -> usize
-    requires { 0 < least_len }
-    ensures { result ≡ min count ((cursor.now.end - place cursor.now) / least_len) }
-{
-    count.min((cursor.end() - cursor.place()) / least_len)
-}
-
 #[tactic(auto, unfolding(crate::specs::Reading::script_at))]
-fn script_of(alloc: Global, cursor: &mut Cursor<'_>) -> Result<Script, BlockFault>
+pub(crate) fn script_of(alloc: Global, cursor: &mut Cursor<'_>) -> Result<Script, BlockFault>
     ensures { Reads result cursor.new (script_at cursor.old) }
 {
     let len = length_of(cursor)?;
@@ -110,7 +104,7 @@ fn script_of(alloc: Global, cursor: &mut Cursor<'_>) -> Result<Script, BlockFaul
 }
 
 #[tactic(auto, unfolding(crate::specs::Reading::output_at))]
-fn output_of(alloc: Global, cursor: &mut Cursor<'_>) -> Result<TxOut, BlockFault>
+pub(crate) fn output_of(alloc: Global, cursor: &mut Cursor<'_>) -> Result<TxOut, BlockFault>
     ensures { Reads result cursor.new (output_at cursor.old) }
 {
     let value = u64_of(cursor)?.cast_signed();
@@ -119,7 +113,7 @@ fn output_of(alloc: Global, cursor: &mut Cursor<'_>) -> Result<TxOut, BlockFault
 }
 
 #[tactic(auto, unfolding(crate::specs::Reading::input_at))]
-fn input_of(alloc: Global, cursor: &mut Cursor<'_>) -> Result<TxIn, BlockFault>
+pub(crate) fn input_of(alloc: Global, cursor: &mut Cursor<'_>) -> Result<TxIn, BlockFault>
     ensures { Reads result cursor.new (input_at cursor.old) }
 {
     let txid = hash_of(cursor)?;
@@ -139,51 +133,18 @@ fn stack_of(alloc: Global, cursor: &mut Cursor<'_>) -> Result<Stack, BlockFault>
     ensures { Reads result cursor.new (stack_at cursor.old) }
 {
     let count = length_of(cursor)?;
-    items_of(alloc, count, cursor)
-}
-
-fn items_of(alloc: Global, count: usize, cursor: &mut Cursor<'_>) -> Result<Stack, BlockFault>
-    ensures { Reads result cursor.new (many_at script_at count cursor.old) }
-{
-    let mut stack = Stack::with_capacity(alloc, room_for(cursor, count, LEAST_ITEM))?;
-    for _ in 0..count {
-        let item = script_of(alloc, cursor)?;
-        stack.push(item)?;
-    }
-    Ok(stack)
-}
-
-fn outputs_of(alloc: Global, count: usize, cursor: &mut Cursor<'_>) -> Result<Outputs, BlockFault>
-    ensures { Reads result cursor.new (many_at output_at count cursor.old) }
-{
-    let mut outputs = Outputs::with_capacity(alloc, room_for(cursor, count, LEAST_OUTPUT))?;
-    for _ in 0..count {
-        let output = output_of(alloc, cursor)?;
-        outputs.push(output)?;
-    }
-    Ok(outputs)
-}
-
-fn inputs_of(alloc: Global, count: usize, cursor: &mut Cursor<'_>) -> Result<Inputs, BlockFault>
-    ensures { Reads result cursor.new (many_at input_at count cursor.old) }
-{
-    let mut inputs = Inputs::with_capacity(alloc, room_for(cursor, count, LEAST_INPUT))?;
-    for _ in 0..count {
-        let input = input_of(alloc, cursor)?;
-        inputs.push(input)?;
-    }
-    Ok(inputs)
+    read_many(alloc, count, LEAST_ITEM, cursor)
 }
 
 // A stack for each of the inputs, which are read without one.
-fn stacks_of(alloc: Global, inputs: &mut Inputs, cursor: &mut Cursor<'_>) -> Result<(), BlockFault>
-    ensures { ReadsAs (λ _. inputs.new) result cursor.new (stacks_at inputs.old cursor.old) }
+fn stacks_of(alloc: Global, inputs: Inputs, cursor: &mut Cursor<'_>) -> Result<Inputs, BlockFault>
+    ensures { Reads result cursor.new (stacks_at inputs cursor.old) }
 {
-    for index in 0..inputs.as_slice().len() {
-        let stack = stack_of(alloc, cursor)?;
-        inputs.set_stack(index, stack);
+    let mut inputs = inputs.into_vec();
+    for index in 0..inputs.len() {
+        inputs[index].stack = stack_of(alloc, cursor)?;
     }
-    Ok(())
+    Ok(List::from(inputs))
 }
 
 #[tactic(auto, unfolding(crate::specs::Reading::lists_at))]
@@ -194,9 +155,9 @@ fn lists_of(
 ) -> Result<(Inputs, Outputs), BlockFault>
     ensures { Reads result cursor.new (lists_at count cursor.old) }
 {
-    let inputs = inputs_of(alloc, count, cursor)?;
+    let inputs = read_many(alloc, count, LEAST_INPUT, cursor)?;
     let count = length_of(cursor)?;
-    let outputs = outputs_of(alloc, count, cursor)?;
+    let outputs = read_many(alloc, count, LEAST_OUTPUT, cursor)?;
     Ok((inputs, outputs))
 }
 
@@ -243,9 +204,9 @@ fn full_of(
     ensures { Reads result cursor.new (full_at version flag cursor.old) }
 {
     let count = length_of(cursor)?;
-    let (mut inputs, outputs) = lists_of(alloc, count, cursor)?;
-    stacks_of(alloc, &mut inputs, cursor)?;
-    if !inputs.has_witness() {
+    let (inputs, outputs) = lists_of(alloc, count, cursor)?;
+    let inputs = stacks_of(alloc, inputs, cursor)?;
+    if !some_witness(inputs.as_slice()) {
         return Err(BlockFault::Bad {
             error: BlockError::EmptyWitness,
             at: flag,
@@ -271,7 +232,7 @@ fn flagged_of(alloc: Global, version: u32, cursor: &mut Cursor<'_>) -> Result<Tx
 }
 
 #[tactic(auto, unfolding(crate::specs::Reading::tx_at))]
-fn tx_of(alloc: Global, cursor: &mut Cursor<'_>) -> Result<Tx, BlockFault>
+pub(crate) fn tx_of(alloc: Global, cursor: &mut Cursor<'_>) -> Result<Tx, BlockFault>
     ensures { Reads result cursor.new (tx_at cursor.old) }
 {
     let version = u32_of(cursor)?;
@@ -281,17 +242,6 @@ fn tx_of(alloc: Global, cursor: &mut Cursor<'_>) -> Result<Tx, BlockFault>
     } else {
         stripped_of(alloc, version, count, cursor)
     }
-}
-
-fn txs_of(alloc: Global, count: usize, cursor: &mut Cursor<'_>) -> Result<Txs, BlockFault>
-    ensures { Reads result cursor.new (many_at tx_at count cursor.old) }
-{
-    let mut txs = Txs::with_capacity(alloc, room_for(cursor, count, LEAST_TX))?;
-    for _ in 0..count {
-        let tx = tx_of(alloc, cursor)?;
-        txs.push(tx)?;
-    }
-    Ok(txs)
 }
 
 /// The header that stands at the cursor, of 80 bytes, which have no fault but that they end too early.
@@ -321,7 +271,7 @@ fn block_in(alloc: Global, cursor: &mut Cursor<'_>) -> Result<Block, BlockFault>
 {
     let header = read_header(cursor)?;
     let count = length_of(cursor)?;
-    let txs = txs_of(alloc, count, cursor)?;
+    let txs = read_many(alloc, count, LEAST_TX, cursor)?;
     Ok(Block { header, txs })
 }
 

@@ -50,23 +50,8 @@ const SPEND: [u8; 113] = [
 
 #[test]
 fn genesis_has_its_hash(rt: HostRuntime) {
-    let header = Header {
-        version: 1,
-        prev: Hash32 { bytes: [0; 32] },
-        root: Hash32 {
-            bytes: [
-                0x3b, 0xa3, 0xed, 0xfd, 0x7a, 0x7b, 0x12, 0xb2, 0x7a, 0xc7, 0x2c, 0x3e, 0x67, 0x76,
-                0x8f, 0x61, 0x7f, 0xc8, 0x1b, 0xc3, 0x88, 0x8a, 0x51, 0x32, 0x3a, 0x9f, 0xb8, 0xaa,
-                0x4b, 0x1e, 0x5e, 0x4a,
-            ],
-        },
-        time: 1_296_688_602,
-        bits: 0x207f_ffff,
-        nonce: 2,
-    };
-    let printed = block_hash(&header).printed();
     assert_eq!(rt;
-        printed.as_slice(),
+        genesis_hash().printed().as_slice(),
         b"0f9188f13cb7b2c71f2a335e3a4fc328bf5beb436012afca590b1a11466e2206".as_slice()
     );
 }
@@ -127,9 +112,12 @@ fn transactions_have_their_hashes(rt: HostRuntime) -> Result<(), Fail> {
     for (text, id, witness_id, coinbase, witness) in rows {
         let bytes = with_header(rt.alloc(), &[&[1], text])?;
         let block = read_block(rt.alloc(), &bytes).ok().ok_or("a block")?;
-        let [tx] = block.txs.as_slice() else {
+        let block = HashedBlock::new(rt.alloc(), block)?;
+        let [tx] = block.block().txs.as_slice() else {
             return Err("one transaction".into());
         };
+        assert_eq!(rt; block.txids(), [txid(tx)].as_slice());
+        assert_eq!(rt; *block.hash(), block_hash(&block.block().header));
         assert_eq!(rt; txid(tx).printed().as_slice(), id);
         assert_eq!(rt; wtxid(tx).printed().as_slice(), witness_id);
         assert_eq!(rt; is_coinbase(tx), coinbase);

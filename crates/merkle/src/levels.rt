@@ -1,12 +1,12 @@
 //! The levels of a merkle tree, each written over the one below.
 
-ghost use Rattle.std.specs.Prelude.{◌≡◌, ◌++◌, IfOk, ◌||◌};
-ghost use Rattle.block_codec.specs.Text.{hash_of_text, zero_hash};
+ghost use Rattle.std.specs.Prelude.{◌≡◌, IfOk};
+ghost use Rattle.block_codec.specs.Text.{zero_hash};
 ghost use Rattle.block_codec.specs.Merkle.{level_above, has_twins as has_twins_of, merkle_root, is_mutated};
 
 use crate::roots::Root;
 use base_types::Hash32;
-use sha2::{Digest, Sha256};
+use block_codec::hash_of_both;
 use std::alloc::{AllocError, Global};
 
 /// The merkle root of hashes, zero for none (`ComputeMerkleRoot` in Bitcoin Core's `consensus/merkle.cpp`). It copies
@@ -56,17 +56,4 @@ fn rise(level: &mut Vec<Hash32>)
         level[pair] = hash_of_both(&left.bytes, &right.bytes);
     }
     level.truncate(pairs);
-}
-
-/// The hash of two texts, one after the other.
-pub(crate) fn hash_of_both(first: &[u8], second: &[u8]) -> Hash32
-    ensures { result ≡ hash_of_text (first.now ++ second.now) }
-{
-    let mut hasher = Sha256::new();
-    hasher.update(first);
-    hasher.update(second);
-    let once = hasher.finalize();
-    Hash32 {
-        bytes: Sha256::digest(once.as_slice()),
-    }
 }

@@ -1,6 +1,6 @@
 use super::*;
 use base_types::{Hash32, OutPoint, Script, TxOut};
-use block_codec::{Block, Header, Inputs, Outputs, Stack, Tx, TxIn, Txs};
+use block_codec::{Block, GENESIS, Inputs, Outputs, Stack, Tx, TxIn, Txs};
 use std::alloc::{AllocError, Global};
 use std::test::Fail;
 
@@ -128,71 +128,11 @@ fn tx_of(alloc: Global, prev: OutPoint, items: &[&[u8]], script: &[u8]) -> Resul
     })
 }
 
-fn block_of(txs: Txs) -> Block {
-    Block {
-        header: Header {
-            version: 4,
-            prev: ZERO,
-            root: ZERO,
-            time: 0,
-            bits: 0,
-            nonce: 0,
-        },
-        txs,
-    }
-}
-
-// A block whose coinbase has an output for each of these: the last byte of the mark, and what follows it. The next
-// transaction holds a commitment too, which doesn't count.
-fn block_with(alloc: Global, outputs: &[(u8, &[u8])]) -> Result<Block, AllocError> {
-    let mut coinbase = tx_of(alloc, NOTHING, &[], &[])?;
-    for (mark, tail) in outputs {
-        let mut script = Vec::from_slice(alloc, &[0x6a, 0x24, 0xaa, 0x21, 0xa9, *mark])?;
-        script.extend_from_slice(tail)?;
-        let output = TxOut {
-            value: 0,
-            script: Script::from_slice(alloc, &script)?,
-        };
-        coinbase.outputs.push(output)?;
-    }
-    let other = tx_of(alloc, NOTHING, &[], &OTHER)?;
-    let mut txs = Txs::new(alloc);
-    txs.push(coinbase)?;
-    txs.push(other)?;
-    Ok(block_of(txs))
-}
-
-const OTHER: [u8; 38] = [
-    0x6a, 0x24, 0xaa, 0x21, 0xa9, 0xed, 9, 9, 9, 9, 9, 9, 9, 9, 9, 9, 9, 9, 9, 9, 9, 9, 9, 9, 9, 9,
-    9, 9, 9, 9, 9, 9, 9, 9, 9, 9, 9, 9,
+// A commitment to a hash that repeats the byte 5.
+const COMMITMENT: [u8; 38] = [
+    0x6a, 0x24, 0xaa, 0x21, 0xa9, 0xed, 5, 5, 5, 5, 5, 5, 5, 5, 5, 5, 5, 5, 5, 5, 5, 5, 5, 5, 5, 5,
+    5, 5, 5, 5, 5, 5, 5, 5, 5, 5, 5, 5,
 ];
-
-// The coinbase's outputs, and the byte that the committed hash repeats.
-#[test]
-fn the_last_commitment_counts(rt: HostRuntime) -> Result<(), Fail> {
-    let rows: [(&[(u8, &[u8])], Option<u8>); 7] = [
-        (&[], None),
-        (&[(0xed, &[1; 31])], None),
-        (&[(0xed, &[1; 32])], Some(1)),
-        (&[(0xed, &[1; 33])], Some(1)),
-        (&[(0xee, &[1; 32])], None),
-        (&[(0xed, &[1; 32]), (0xed, &[2; 32])], Some(2)),
-        (&[(0xed, &[1; 32]), (0xed, &[2; 31])], Some(1)),
-    ];
-    for (outputs, name) in rows {
-        let block = block_with(rt.alloc(), outputs)?;
-        let found = commitment(&block).map(|hash| hash.bytes);
-        assert_eq!(rt;
-            found,
-            name.map(|name| [name; 32]),
-            "the commitment of {outputs:?}"
-        );
-    }
-    let empty = block_of(Txs::new(rt.alloc()));
-    assert_eq!(rt; commitment(&empty), None);
-    assert_eq!(rt; witness_root(rt.alloc(), &empty)?, ZERO);
-    Ok(())
-}
 
 // A coinbase, a transaction with a witness and one without, by Python's hashlib.
 #[test]
@@ -201,19 +141,23 @@ fn witnesses_are_committed_to(rt: HostRuntime) -> Result<(), Fail> {
         txid: Hash32 { bytes: [0x11; 32] },
         index: 0,
     };
-    let coinbase = tx_of(rt.alloc(), NOTHING, &[&[0; 32]], &[0x51])?;
+    let coinbase = tx_of(rt.alloc(), NOTHING, &[&[0; 32]], &COMMITMENT)?;
     let with_witness = tx_of(rt.alloc(), first, &[&[1, 2], &[3]], &[0x51])?;
     let without = tx_of(rt.alloc(), OutPoint { index: 1, ..first }, &[], &[])?;
     let mut txs = Txs::new(rt.alloc());
     txs.push(coinbase)?;
     txs.push(with_witness)?;
     txs.push(without)?;
-    let block = block_of(txs);
+    let block = Block {
+        header: GENESIS,
+        txs,
+    };
     let root = witness_root(rt.alloc(), &block)?;
     assert_eq!(rt;
         root.printed().as_slice(),
         b"21bce30f03874793f2c508f78229ad30f34b41408d9a56c95e63b989d6bc49d6".as_slice()
     );
+    assert_eq!(rt; commitment(&block), Some(Hash32 { bytes: [5; 32] }));
     let computed = computed_commitment(rt.alloc(), &block, &[7; 32])?;
     assert_eq!(rt;
         computed.printed().as_slice(),

@@ -3,9 +3,9 @@
 ghost use Rattle.std.specs.Prelude.{◌≡◌, IfOk, Some, None, if◌then◌else◌};
 ghost use Rattle.block_codec.specs.Commitment.{last_commitment as last_commitment_of, commits, committed_hash as committed_hash_of, commitment_of, witness_root_of, computed_commitment as computed_commitment_of};
 
-use crate::levels::{hash_of_both, root_in_place};
+use crate::levels::root_in_place;
 use base_types::{Hash32, TxOut};
-use block_codec::{Block, wtxid};
+use block_codec::{Block, hash_of_both, wtxid};
 use std::alloc::{AllocError, Global};
 
 /// The hash that the coinbase commits to: that in the last of its outputs that holds a commitment

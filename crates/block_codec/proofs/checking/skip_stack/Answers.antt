@@ -6,6 +6,6 @@ use Rattle.block_codec.proofs.checking.skip_stack.Goals as goal
 pub returns : goal.returns
 unfolding stack_at
 returns c =
-    let items = c.in_ok-skip_items.ensures in
-    let len = many_len script_at c.in_ok-count.count c.compact_len.new.self items.0 c.skip_items.new.cursor items.1 in
+    let items = c.in_ok-skip_many.ensures in
+    let len = many_len script_at c.in_ok-count.count c.compact_len.new.self items.0 c.skip_many.new.cursor items.1 in
     (items.0, ap (λ n. not (n == 0)) (sym len), rw c.in_ok-count.ensures.value items.1)

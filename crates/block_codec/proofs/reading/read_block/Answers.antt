@@ -1,8 +1,8 @@
 use Rattle.std.proofs.Common.{ap, subst, ◌∙◌}
-use Rattle.base_types.specs.Codec.{IsBytes-slice}
+use Rattle.base_types.proofs.Codecs.{IsBytes-slice}
 use Rattle.block_codec.specs.Reading.{Answers, block_of}
-use Rattle.block_codec.specs.BlockLaws.{whole_again}
-use Rattle.block_codec.specs.HasText.{is_found, text_from}
+use Rattle.block_codec.proofs.BlockLaws.{whole_again}
+use Rattle.block_codec.proofs.HasText.{is_found, text_from}
 use Rattle.block_codec.proofs.reading.read_block.Goals as goal
 
 pub returns-clause-found : goal.returns-clause-found

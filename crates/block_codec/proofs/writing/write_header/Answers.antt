@@ -3,7 +3,7 @@ use Rattle.std.proofs.lemmas.List.{length-append}
 use Rattle.std.specs.Prelude.{Result, Ok, Err, OnOk, is_ok, if◌then◌else◌}
 use Rattle.block_codec.specs.Encoding.{Appended}
 use Rattle.block_codec.specs.Text.{header_text}
-use Rattle.block_codec.specs.BlockLaws.{length-header}
+use Rattle.block_codec.proofs.BlockLaws.{length-header}
 use Rattle.block_codec.proofs.writing.write_header.Goals as goal
 
 longer : {T E : Type 0} (r : Result T E) (first text bytes : List ℕ) (n : ℕ) → length text ≡ n → bytes ≡ (if is_ok r then first ++ text else first) → OnOk r (length bytes ≡ length first + n)

@@ -21,7 +21,7 @@ use Rattle.std.specs.Prelude.{IfOk}
 use Rattle.base_types.specs.Codec.{IsBytes}
 use Rattle.block_codec.specs.Reading.{Answers, block_of}
 use Rattle.block_codec.specs.declared.fault.BlockFault.{BlockFault}
-use Rattle.block_codec.specs.BlockLaws.{whole_takes}
+use Rattle.block_codec.proofs.BlockLaws.{whole_takes}
 use Rattle.block_codec.specs.Text.{every, is_i32, is_i64, is_u32, is_length, is_hash, script_has_text, output_has_text, stack_has_text, input_has_text, tx_has_text, header_has_text, block_has_text, block_text, text_of}
 
 i64_fits : (z : ℤ) → is_i64 z ≡ true → FitsSigned w64 z

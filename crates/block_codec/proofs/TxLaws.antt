@@ -6,8 +6,9 @@ use Rattle.std.proofs.lemmas.Bool.{eqb-true, eqb-false}
 use Rattle.std.proofs.lemmas.List.{nil_from_length}
 use Rattle.base_types.specs.Reading.{Input, place, ◌>>=◌, byte_at}
 use Rattle.base_types.specs.Bytes.{compact, number_text}
-use Rattle.base_types.specs.Codec.{IsBytes, Takes, Takes-then, IsCodec, Counted, at, field, renamed, bind_ok, chosen, ok_is, step, many_codec}
-use Rattle.base_types.specs.Fields.{byte_takes}
+use Rattle.base_types.specs.Codec.{IsBytes, at, field, renamed}
+use Rattle.base_types.proofs.Codecs.{Takes, Takes-then, IsCodec, Counted, bind_ok, chosen, ok_is, step, many_codec}
+use Rattle.base_types.proofs.Fields.{byte_takes}
 use Rattle.base_types.specs.declared.coin.TxOut.{TxOut}
 use Rattle.base_types.specs.declared.cursor.ReadError.{ReadError}
 use Rattle.block_codec.specs.declared.block.TxIn.{TxIn}
@@ -16,7 +17,7 @@ use Rattle.block_codec.specs.declared.fault.BlockError.TheVariants.{BadFlag, Emp
 use Rattle.block_codec.specs.Reading.{Wrong, wrong, stacks_at, lists_at, ended_at, stripped_at, full_at, flagged_at, tx_at}
 use Rattle.block_codec.specs.Text.{output_text, input_text, stripped_text, full_text, marker_and_flag, tx_text, some_witness, has_witness}
 use Rattle.block_codec.specs.Fitting.{IsLength, OutputFits, InputFits, TxFits}
-use Rattle.block_codec.specs.InputLaws.{u32_codec, length_codec, output_codec, BareFits, input_codec, bare_of, witness_text, WitnessFits, stacks_takes, stacks_again, bare_twice, same_texts, same_length, bare_already, bare_each, stacks_each, joined_each, none_fit, no_witness, none_bare}
+use Rattle.block_codec.proofs.InputLaws.{u32_codec, length_codec, output_codec, BareFits, input_codec, bare_of, witness_text, WitnessFits, stacks_takes, stacks_again, bare_twice, same_texts, same_length, bare_already, bare_each, stacks_each, joined_each, none_fit, no_witness, none_bare}
 
 -- ---- inputs and outputs
 

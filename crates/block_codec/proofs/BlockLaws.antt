@@ -9,17 +9,18 @@ use Rattle.std.proofs.lemmas.Bool.{eqb-true, le-ltb}
 use Rattle.std.proofs.lemmas.List.{nil_from_length, append-nil, length-append, length-drop}
 use Rattle.std.proofs.lemmas.Int.{of_z-to_z, to_z-of_z}
 use Rattle.std.proofs.Math.Facts.{Fits-of_z, sfits_to_z}
-use Rattle.base_types.specs.Reading.{Input, place, bytes_at, number_at}
+use Rattle.base_types.specs.Reading.{Input, place, bytes_at, number_at, length_at}
 use Rattle.base_types.specs.Bytes.{compact, number_text}
-use Rattle.base_types.specs.Codec.{IsBytes, Takes, Takes-then, IsCodec, at, field, guard_else, ok_is, step, many_codec}
+use Rattle.base_types.specs.Codec.{IsBytes, at, field, many_at}
+use Rattle.base_types.proofs.Codecs.{Takes, Takes-then, IsCodec, bind_ok, guard_else, ok_is, step, many_codec}
 use Rattle.block_codec.specs.declared.block.Header.{Header}
 use Rattle.block_codec.specs.declared.block.Block.{Block}
 use Rattle.block_codec.specs.declared.fault.BlockError.TheVariants.{Trailing}
-use Rattle.block_codec.specs.Reading.{Wrong, wrong, header_at, block_at, block_of}
+use Rattle.block_codec.specs.Reading.{Wrong, wrong, tx_at, header_at, block_at, block_of}
 use Rattle.block_codec.specs.Text.{tx_text, header_text, block_text}
 use Rattle.block_codec.specs.Fitting.{IsLength, HeaderFits, BlockFits}
-use Rattle.block_codec.specs.InputLaws.{u32_codec, length_codec, bytes_codec}
-use Rattle.block_codec.specs.TxLaws.{tx_codec}
+use Rattle.block_codec.proofs.InputLaws.{u32_codec, length_codec, bytes_codec}
+use Rattle.block_codec.proofs.TxLaws.{tx_codec}
 
 -- ---- a header
 
@@ -170,3 +171,16 @@ whole_again b fits =
     let whole : block_at (at (length (block_text b)) (block_text b)) ≡ Ok (b, at (length (block_text b)) []) =
     ap (λ (y : List ℕ). block_at (at (length (block_text b)) y)) (sym (append-nil (block_text b))) ∙ block_codec.again b (length (block_text b)) [] fits in
     rw whole refl
+
+-- bytes that are a block begin with its header
+pub header_of_block : (bytes : List ℕ) (b : Block) → block_of bytes ≡ Ok b → (after : Input) × (header_at (at (length bytes) bytes) ≡ Ok (b.header, after))
+unfolding block_of block_at
+header_of_block bytes b e =
+    let whole = bind_ok (block_at (at (length bytes) bytes)) _ b e in
+    let is = guard_else (eqb (length whole.0.1.rest) 0) (Trailing, place whole.0.1) whole.0.0 b whole.2 in
+    let header = bind_ok (header_at (at (length bytes) bytes)) _ whole.0 whole.1 in
+    let count = bind_ok (field wrong length_at header.0.1) _ whole.0 header.2 in
+    let txs = bind_ok (many_at tx_at count.0.0 count.0.1) _ whole.0 count.2 in
+    let made : Block × Input = (record { header = header.0.0; txs = txs.0.0 }, txs.0.1) in
+    let same : header.0.0 ≡ b.header = ap (λ (y : Block × Input). y.0.header) (ok_is {E = Wrong} made whole.0 txs.2) ∙ ap (λ (y : Block). y.header) is.1 in
+    (header.0.1, subst (λ (h : Header). header_at (at (length bytes) bytes) ≡ Ok (h, header.0.1)) same header.1)

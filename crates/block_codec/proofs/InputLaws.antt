@@ -12,8 +12,9 @@ use Rattle.std.proofs.lemmas.Int.{of_z-to_z, to_z-of_z}
 use Rattle.std.proofs.Math.Facts.{Fits-of_z, sfits_to_z}
 use Rattle.base_types.specs.Reading.{Input, ◌>>=◌, bytes_at, number_at, length_at}
 use Rattle.base_types.specs.Bytes.{compact, number_text}
-use Rattle.base_types.specs.Codec.{IsBytes, Takes, Takes-then, IsCodec, at, field, bind_ok, ok_is, step, field_codec, many_codec}
-use Rattle.base_types.specs.Fields.{wide32, wide64, number_field, bytes_field, length_field}
+use Rattle.base_types.specs.Codec.{IsBytes, at, field}
+use Rattle.base_types.proofs.Codecs.{Takes, Takes-then, IsCodec, bind_ok, ok_is, step, field_codec, many_codec}
+use Rattle.base_types.proofs.Fields.{wide32, wide64, number_field, bytes_field, length_field}
 use Rattle.base_types.specs.declared.coin.TxOut.{TxOut}
 use Rattle.block_codec.specs.declared.block.TxIn.{TxIn}
 use Rattle.block_codec.specs.Reading.{Wrong, wrong, script_at, output_at, input_at, stack_at, stacks_at}

@@ -2,7 +2,8 @@
 use Rattle.std.specs.Prelude.{◌≡◌, ℕ, suc, ◌+◌, ◌-◌, ◌*◌, ◌/◌, ◌%◌, ◌^◌, ◌<◌, ◌≤◌, true, Option, Some, None, refl}
 use Rattle.std.proofs.Common.{cond, eqb, leb, sym, ◌∙◌, arith}
 use Rattle.std.proofs.lemmas.Bool.{eq-eqb, ne_eqb, le-leb, lt-leb}
-use Rattle.coin_codec.specs.Amount.{tens, left, code_of, amount_code, left_of, amount_of, nine_code, tens_none, some_code}
+use Rattle.coin_codec.specs.Amount.{tens, left, code_of, amount_code, left_of, amount_of}
+use Rattle.coin_codec.proofs.AmountLaws.{nine_code, tens_none, some_code}
 
 -- one more factor of ten is taken out
 pub taken : (t n e m : ℕ) → t < 9 → n % 10 ≡ 0 → t + tens (9 - t) n ≡ e → left (9 - t) n ≡ m → (t + 1 + tens (9 - (t + 1)) (n / 10) ≡ e) × (left (9 - (t + 1)) (n / 10) ≡ m)

@@ -1,2 +1,9 @@
+pub mod AmountLaws
+pub mod Between
 pub mod Codes
-pub mod Parts
+pub mod CoinLaws
+pub mod Further
+pub mod KeyLaws
+pub mod ScriptLaws
+pub mod WholeCoins
+pub mod VarintLens

@@ -1,8 +1,6 @@
 pub mod Amount
-pub mod CoinLaws
 pub mod CoinText
-pub mod Further
-pub mod KeyLaws
 pub mod KeyText
+pub mod Parts
 pub mod Reading
 pub mod ScriptForm

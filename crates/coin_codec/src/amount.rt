@@ -1,14 +1,14 @@
 //! The codes of amounts (Bitcoin Core's `compressor.cpp`).
 
 ghost use Rattle.std.specs.Prelude.{◌≡◌, ◌^◌, ◌<◌, ◌≤◌, Some, None, nat_le, if◌then◌else◌};
+ghost use Rattle.base_types.specs.Parameters.{max_money};
 ghost use Rattle.coin_codec.specs.Amount.{amount_code, amount_of, left_of as left_in};
 
-/// The greatest amount in satoshis (`MAX_MONEY` in Bitcoin Core's `amount.h`).
-const MAX_AMOUNT: u64 = 2_100_000_000_000_000;
+use base_types::MAX_MONEY;
 
-/// The code of an amount in satoshis.
+// The code of an amount in satoshis.
 pub(crate) fn compress(value: u64) -> u64
-    requires { value ≤ 2_100_000_000_000_000 }
+    requires { value ≤ max_money }
     ensures { result ≡ amount_code value }
 {
     if value == 0 {
@@ -40,9 +40,9 @@ fn left_of(tens: u64, above: u64) -> u64
     }
 }
 
-/// The amount of a code, or none where it is above the greatest.
+// The amount of a code, or none where it is above the greatest.
 pub(crate) fn decompress(code: u64) -> Option<u64>
-    ensures { result ≡ (if nat_le (amount_of code) 2_100_000_000_000_000 then Some (amount_of code) else None) }
+    ensures { result ≡ (if nat_le (amount_of code) max_money then Some (amount_of code) else None) }
 {
     if code == 0 {
         return Some(0);
@@ -51,7 +51,7 @@ pub(crate) fn decompress(code: u64) -> Option<u64>
     let above = (code - 1) / 10;
     let left = left_of(tens, above);
     let value = left.checked_mul(10u64.pow(tens as u32))?;
-    if value > MAX_AMOUNT {
+    if value > MAX_MONEY {
         return None;
     }
     Some(value)

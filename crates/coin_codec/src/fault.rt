@@ -1,7 +1,7 @@
 //! Why a coin could not be read.
 
 ghost use Rattle.std.specs.Prelude.{◌≡◌};
-ghost use Rattle.coin_codec.specs.declared.fault.CoinFault.TheVariants.{NoMemory};
+ghost use Rattle.coin_codec.specs.declared.fault.CoinFault.TheVariants.{NoMemory, Bad};
 
 use base_types::CoinError;
 use std::alloc::AllocError;
@@ -15,10 +15,28 @@ pub enum CoinFault {
     Bad { error: CoinError, at: usize },
 }
 
+// What is wrong with bytes that are no coin, and its offset.
+#[derive(Clone, Copy, Debug)]
+pub(crate) struct BadCoin {
+    pub(crate) error: CoinError,
+    pub(crate) at: usize,
+}
+
 impl From<AllocError> for CoinFault {
     ghost from_gives = { λ _ fault. fault ≡ NoMemory };
 
     fn from(_error: AllocError) -> CoinFault {
         CoinFault::NoMemory
+    }
+}
+
+impl From<BadCoin> for CoinFault {
+    ghost from_gives = { λ bad fault. fault ≡ Bad bad.error bad.at };
+
+    fn from(bad: BadCoin) -> CoinFault {
+        CoinFault::Bad {
+            error: bad.error,
+            at: bad.at,
+        }
     }
 }

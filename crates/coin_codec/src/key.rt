@@ -3,15 +3,16 @@
 ghost use Rattle.std.specs.Prelude.{◌≡◌, ℕ, ◌+◌, ◌≤◌, ◌++◌, length, take, vec_len, vec_capacity, List, Ok, IsOk, IfOk, OnOk, OnErr};
 ghost use Rattle.base_types.specs.Codec.{at};
 ghost use Rattle.base_types.specs.declared.hash.OutPoint.{OutPoint};
-ghost use Rattle.coin_codec.specs.CoinLaws.{IsNumber, Taken};
-ghost use Rattle.coin_codec.specs.Further.{IsFurther};
+ghost use Rattle.coin_codec.specs.Reading.{IsNumber, TakesText};
+ghost use Rattle.coin_codec.specs.Reading.{IsFurther};
 ghost use Rattle.coin_codec.specs.KeyText.{key_text, KeyFits};
-ghost use Rattle.coin_codec.specs.Reading.{as_read, is_u32, letter_at, tested_at, key_at, Reads};
+ghost use Rattle.coin_codec.specs.Reading.{same_error, is_u32, letter_at, checked_varint_at, key_at, Reads};
 
+use crate::appending::all_or_nothing;
 use base_types::{Cursor, Hash32, OutPoint, ReadError, put_varint};
 use std::alloc::AllocError;
 
-/// The letter before each key of a coin (`DB_COIN` in Bitcoin Core's `txdb.cpp`).
+// The letter before each key of a coin (`DB_COIN` in Bitcoin Core's `txdb.cpp`).
 const LETTER: u8 = b'C';
 
 #[tactic(auto, unfolding(crate::specs::KeyText::key_text))]
@@ -40,13 +41,10 @@ pub fn write_key(out: &mut Vec<u8>, key: &OutPoint) -> Result<(), AllocError>
 {
     let len = out.len();
     let written = put_key(out, key);
-    if written.is_err() {
-        out.truncate(len);
-    }
-    written
+    all_or_nothing(out, len, written)
 }
 
-#[tactic(auto, using(crate::specs::Further::further_steps), unfolding(crate::specs::Reading::letter_at))]
+#[tactic(auto, using(crate::proofs::Further::further_steps), unfolding(crate::specs::Reading::letter_at))]
 fn letter_of(cursor: &mut Cursor<'_>) -> Result<u8, ReadError>
     ensures value { Reads result cursor.new (letter_at cursor.old) }
     ensures further { IsFurther cursor.old cursor.new }
@@ -58,9 +56,9 @@ fn letter_of(cursor: &mut Cursor<'_>) -> Result<u8, ReadError>
     Ok(letter)
 }
 
-#[tactic(auto, using(crate::specs::Further::further_steps), unfolding(crate::specs::Reading::tested_at))]
+#[tactic(auto, using(crate::proofs::Further::further_steps), unfolding(crate::specs::Reading::checked_varint_at))]
 fn index_of(cursor: &mut Cursor<'_>) -> Result<u32, ReadError>
-    ensures value { Reads result cursor.new (tested_at as_read is_u32 cursor.old) }
+    ensures value { Reads result cursor.new (checked_varint_at same_error is_u32 cursor.old) }
     ensures number { IsNumber cursor.old.rest }
     ensures further { IsFurther cursor.old cursor.new }
 {
@@ -71,10 +69,10 @@ fn index_of(cursor: &mut Cursor<'_>) -> Result<u32, ReadError>
     Ok(index as u32)
 }
 
-#[tactic(auto, using(crate::specs::Further::further_steps), unfolding(crate::specs::Reading::key_at))]
+#[tactic(auto, using(crate::proofs::Further::further_steps), unfolding(crate::specs::Reading::key_at))]
 fn key_of(cursor: &mut Cursor<'_>) -> Result<OutPoint, ReadError>
     ensures value { Reads result cursor.new (key_at cursor.old) }
-    ensures found { IfOk result (λ key. Taken key_text KeyFits cursor.old key cursor.new) }
+    ensures found { IfOk result (λ key. TakesText key_text KeyFits cursor.old key cursor.new) }
     ensures further { IsFurther cursor.old cursor.new }
 {
     letter_of(cursor)?;
@@ -90,7 +88,7 @@ fn key_of(cursor: &mut Cursor<'_>) -> Result<OutPoint, ReadError>
 
 /// Reads an outpoint. The error is LongSpelling where the first byte isn't the letter C, and TooLarge where the number
 /// is above 2^32 - 1. After an error the cursor is as before.
-#[tactic(auto, using(crate::specs::Further::further_steps))]
+#[tactic(auto, using(crate::proofs::Further::further_steps))]
 pub fn read_key(cursor: &mut Cursor<'_>) -> Result<OutPoint, ReadError>
     // What is read has this text.
     ensures found { IfOk result (λ key. KeyFits key × (cursor.old.rest ≡ key_text key ++ cursor.new.rest)) }

@@ -2,15 +2,20 @@
 #![tactic(auto)]
 
 mod amount;
+mod appending;
 mod fault;
 mod key;
+mod lengths;
+mod parts;
 mod reading;
 mod script_form;
 mod writing;
 
+pub use appending::all_or_nothing;
 pub use fault::CoinFault;
 pub use key::{read_key, write_key};
-pub use reading::read_coin;
+pub use lengths::{coin_len, key_len};
+pub use reading::{is_coin, read_coin};
 pub use writing::write_coin;
 
 #[cfg(test)]

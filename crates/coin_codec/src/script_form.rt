@@ -6,6 +6,10 @@ ghost use Rattle.coin_codec.specs.ScriptForm.{before, kept_len as len_of, behind
 use base_types::Script;
 use std::alloc::{AllocError, Global};
 
+// The first numbers stand for kinds of scripts, and lengths begin behind them (`nSpecialScripts` in Bitcoin Core's
+// `compressor.h`).
+pub(crate) const SPECIAL_SCRIPTS: u64 = 6;
+
 // What every script of a kind begins with.
 fn front(mark: u8) -> &'static [u8]
     requires { mark < 4 }
@@ -30,7 +34,7 @@ fn back(mark: u8) -> &'static [u8]
     }
 }
 
-/// How many bytes of a script of a kind are kept.
+// How many bytes of a script of a kind are kept.
 pub(crate) fn kept_len(mark: u8) -> usize
     ensures { result ≡ len_of mark }
 {
@@ -55,7 +59,7 @@ fn of_kind(mark: u8, script: &[u8]) -> Option<(u8, &[u8])>
     Some((mark, kept))
 }
 
-/// The mark of a script's kind and the bytes of it that are kept, where it is of one of the kinds.
+// The mark of a script's kind and the bytes of it that are kept, where it is of one of the kinds.
 #[tactic(auto, unfolding(crate::specs::ScriptForm::short_form))]
 pub(crate) fn short_form(script: &[u8]) -> Option<(u8, &[u8])>
     ensures { option_map (λ x. (x.0, x.1.now)) result ≡ short_of script.now }
@@ -85,7 +89,7 @@ fn joined(alloc: Global, front: &[u8], kept: &[u8], back: &[u8]) -> Result<Scrip
     Script::from_slice(alloc, &bytes[..end])
 }
 
-/// The script of a kind of which these bytes are kept.
+// The script of a kind of which these bytes are kept.
 pub(crate) fn whole_script(alloc: Global, mark: u8, kept: &[u8]) -> Result<Script, AllocError>
     requires kind { mark < 4 }
     requires len { length kept.now ≡ len_of mark }

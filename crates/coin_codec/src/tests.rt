@@ -1,10 +1,10 @@
 use crate::amount::{compress, decompress};
-use crate::{CoinFault, read_coin, read_key, write_coin, write_key};
+use crate::{CoinFault, coin_len, is_coin, key_len, read_coin, read_key, write_coin, write_key};
 use base_types::{Coin, CoinError, Cursor, Hash32, OutPoint, ReadError, Script};
 use std::alloc::Global;
 use std::test::Fail;
 
-// Whether the text is read as the coin, to its end, and written again.
+// Whether the text is read as the coin, to its end, and written again, and has the length that the coin is told to have.
 fn is_text(alloc: Global, text: &[u8], value: u64, script: &[u8], code: u32) -> Result<bool, Fail> {
     let mut cursor = Cursor::new(text);
     let coin = read_coin(alloc, &mut cursor)?;
@@ -16,7 +16,8 @@ fn is_text(alloc: Global, text: &[u8], value: u64, script: &[u8], code: u32) -> 
     };
     let mut out = Vec::new(alloc);
     write_coin(&mut out, &coin)?;
-    Ok(cursor.is_at_end() && coin == wanted && out.as_slice() == text)
+    let exact = is_coin(text) && coin_len(&coin) == text.len();
+    Ok(exact && cursor.is_at_end() && coin == wanted && out.as_slice() == text)
 }
 
 #[test]
@@ -109,6 +110,7 @@ fn errors_of_coins(rt: HostRuntime) -> Result<(), Fail> {
         ),
     ];
     for (bytes, error, at) in rows {
+        assert!(rt; !is_coin(bytes), "{bytes:?}");
         let fault = fault_of(rt.alloc(), bytes)?;
         assert!(rt; fault == Some(CoinFault::Bad { error, at }), "{bytes:?}");
     }
@@ -127,7 +129,7 @@ fn keys(rt: HostRuntime) -> Result<(), Fail> {
     wanted.push(0x43)?;
     wanted.extend_from_slice(&[0x11; 32])?;
     wanted.extend_from_slice(b"\x8e\xfe\xfe\xfe\x7f")?;
-    assert!(rt; text.as_slice() == wanted.as_slice());
+    assert!(rt; text.as_slice() == wanted.as_slice() && key_len(&key) == 38);
     assert!(rt; read_key(&mut Cursor::new(&text)) == Ok(key));
     text.pop();
     assert!(rt; read_key(&mut Cursor::new(&text)) == Err(ReadError::Short));

@@ -1,17 +1,21 @@
 //! Writing coins.
 
-ghost use Rattle.std.specs.Prelude.{◌≡◌, ◌+◌, ◌≤◌, ◌++◌, length, take, vec_len, vec_capacity, IsOk, OnOk, OnErr};
-ghost use Rattle.coin_codec.specs.CoinText.{coin_text, CoinFits};
+ghost use Rattle.std.specs.Prelude.{◌≡◌, ◌+◌, ◌^◌, ◌<◌, ◌≤◌, ◌++◌, length, take, vec_len, vec_capacity, IsOk, OnOk, OnErr};
+ghost use Rattle.base_types.specs.Coins.{height_code as code_of_height};
+ghost use Rattle.base_types.specs.Coins.{CoinFits};
+ghost use Rattle.base_types.specs.Parameters.{max_script_size};
+ghost use Rattle.coin_codec.specs.CoinText.{coin_text};
 ghost use Rattle.coin_codec.specs.ScriptForm.{script_form};
 
 use crate::amount::compress;
-use crate::script_form::short_form;
+use crate::appending::all_or_nothing;
+use crate::script_form::{SPECIAL_SCRIPTS, short_form};
 use base_types::{Coin, put_varint};
 use std::alloc::AllocError;
 
 #[tactic(auto, unfolding(crate::specs::ScriptForm::script_form))]
 fn put_script(out: &mut Vec<u8>, script: &[u8]) -> Result<(), AllocError>
-    requires { length script.now ≤ 10_000 }
+    requires { length script.now ≤ max_script_size }
     ensures ok { OnOk result (out.new.items ≡ out.old.items ++ script_form script.now) }
     ensures err { OnErr result (take (length out.old.items) out.new.items ≡ out.old.items) }
 
@@ -25,10 +29,18 @@ fn put_script(out: &mut Vec<u8>, script: &[u8]) -> Result<(), AllocError>
             out.extend_from_slice(kept)
         }
         None => {
-            put_varint(out, script.len() as u64 + 6)?;
+            put_varint(out, script.len() as u64 + SPECIAL_SCRIPTS)?;
             out.extend_from_slice(script)
         }
     }
+}
+
+// Twice the height, and one more for a coinbase.
+pub(crate) fn height_code(coin: &Coin) -> u64
+    requires { coin.now.height < 2 ^ 31 }
+    ensures { result ≡ code_of_height coin.now }
+{
+    2 * u64::from(coin.height) + u64::from(coin.coinbase)
 }
 
 #[tactic(auto, unfolding(crate::specs::CoinText::coin_text))]
@@ -41,7 +53,7 @@ fn put_coin(out: &mut Vec<u8>, coin: &Coin) -> Result<(), AllocError>
     ensures room { vec_len out.old + length (coin_text coin.now) ≤ vec_capacity out.old → IsOk result }
     ensures capacity { vec_capacity out.old ≤ vec_capacity out.new }
 {
-    put_varint(out, 2 * u64::from(coin.height) + u64::from(coin.coinbase))?;
+    put_varint(out, height_code(coin))?;
     put_varint(out, compress(coin.value))?;
     put_script(out, coin.script.as_slice())
 }
@@ -59,8 +71,5 @@ pub fn write_coin(out: &mut Vec<u8>, coin: &Coin) -> Result<(), AllocError>
 {
     let len = out.len();
     let written = put_coin(out, coin);
-    if written.is_err() {
-        out.truncate(len);
-    }
-    written
+    all_or_nothing(out, len, written)
 }

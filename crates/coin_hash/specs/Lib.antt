@@ -1,1 +1,2 @@
 pub mod CoinHash
+pub mod Examples

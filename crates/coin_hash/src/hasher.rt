@@ -7,8 +7,9 @@ ghost use Rattle.base_types.specs.Bytes.{compact};
 ghost use Rattle.base_types.specs.Keys.{outpoint_cmp};
 ghost use Rattle.base_types.specs.declared.hash.OutPoint.{OutPoint};
 ghost use Rattle.base_types.specs.declared.coin.Coin.{Coin};
-ghost use Rattle.coin_hash.specs.CoinHash.{Holds, hash_of, coin_hash};
 ghost use Rattle.base_types.specs.Coins.{height_code as code_of};
+ghost use Rattle.base_types.specs.Parameters.{max_script_size};
+ghost use Rattle.coin_hash.specs.CoinHash.{Holds, hash_of, coin_hash};
 
 use base_types::{Coin, Hash32, OutPoint};
 use sha2::{Digest, Sha256};
@@ -30,7 +31,7 @@ fn height_code(coin: &Coin) -> u32
 // Adds the CompactSize of a script's length.
 #[tactic(auto, unfolding(base_types::specs::Bytes::compact, base_types::specs::Bytes::number_text))]
 fn add_length(state: &mut Sha256, len: usize)
-    requires { len ≤ 10_000 }
+    requires { len ≤ max_script_size }
     ensures { (text : List ℕ) → Holds256 state.old text → Holds256 state.new (text ++ compact len) }
 {
     if len < 253 {
@@ -55,7 +56,7 @@ impl Hasher {
     /// of the output. The height is below 2^31 and the script has at most 10,000 bytes.
     pub fn add(&mut self, key: &OutPoint, coin: &Coin)
         requires height { coin.now.height < 2 ^ 31 }
-        requires script { length coin.now.script ≤ 10_000 }
+        requires script { length coin.now.script ≤ max_script_size }
         ensures { (coins : List (OutPoint × Coin)) → Holds self.old coins → Holds self.new (coins ++ (key.now, coin.now) ∷ []) }
     {
         let height = height_code(coin);

@@ -1,5 +1,9 @@
+ghost use Rattle.std.specs.Prelude.{◌≡◌};
+ghost use Rattle.coin_hash.specs.CoinHash.{hash_text};
+ghost use Rattle.coin_hash.specs.Examples.{one_coin};
+
 use crate::Hasher;
-use base_types::{Coin, Hash32, OutPoint, Script};
+use base_types::{Coin, Hash32, OutPoint, Script, hash_twice};
 use std::test::Fail;
 
 const ONE: Hash32 = Hash32 {
@@ -17,6 +21,15 @@ const TWO: Hash32 = Hash32 {
         0x30, 0xbe,
     ],
 };
+
+// The 50 bytes that are hashed of the first coin.
+fn text_of_one() -> [u8; 50]
+    ensures { result ≡ hash_text one_coin }
+{
+    *b"\x11\x11\x11\x11\x11\x11\x11\x11\x11\x11\x11\x11\x11\x11\x11\x11\
+      \x11\x11\x11\x11\x11\x11\x11\x11\x11\x11\x11\x11\x11\x11\x11\x11\
+      \x00\x00\x00\x00\x03\x00\x00\x00\x00\xf2\x05\x2a\x01\x00\x00\x00\x01\x51"
+}
 
 #[test]
 fn hashes(rt: HostRuntime) -> Result<(), Fail> {
@@ -42,7 +55,7 @@ fn hashes(rt: HostRuntime) -> Result<(), Fail> {
     };
     let mut one = Hasher::new();
     one.add(&first, &short);
-    assert!(rt; one.finish() == ONE);
+    assert!(rt; one.finish() == ONE && hash_twice(&text_of_one()) == ONE);
     let mut two = Hasher::new();
     two.add(&first, &short);
     assert!(rt; long.script.as_slice().len() == 300);

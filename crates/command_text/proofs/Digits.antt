@@ -6,7 +6,7 @@ use Rattle.std.specs.Str.Parse.{ParsesUnsigned, digits_value}
 use Rattle.std.proofs.lemmas.Bool.Decides.{nat_tests}
 use Rattle.std.proofs.lemmas.Str.Parse.{IsDigitsTest, IsNumeralModel, numerals_by_value, parse_digits}
 use Rattle.command_text.specs.Lines.{number_of}
-use Rattle.command_text.specs.declared.line.LineRefused.{LineRefused}
+use Rattle.command_text.specs.declared.field.NumberForm.{NumberForm}
 
 digits_are_told : IsDigitsTest (λ ds. list_all is_ascii_digit ds ≡ true)
 digits_are_told = search rules
@@ -17,7 +17,7 @@ numerals = numerals_by_value _ digits_are_told
 abbrev as_result : {E : Type 0} → E → Result ℕ E
 as_result e = Err e
 
-pub not_read : {E : Type 0} (e : E) (digits least most : ℕ) (why : LineRefused) (field : List ℕ) → ParsesUnsigned 64 10 field (as_result e) → list_all is_ascii_digit field ≡ true → most < 2 ^ 64 → number_of digits least most why field ≡ Err why
-not_read e digits least most why field h all small =
+pub not_read : {E : Type 0} (e : E) (form : NumberForm) (field : List ℕ) → ParsesUnsigned 64 10 field (as_result e) → list_all is_ascii_digit field ≡ true → form.most < 2 ^ 64 → number_of form field ≡ Err form.refusal
+not_read e form field h all small =
     let none = parse_digits numerals 64 field (as_result e) h all in
     grind (arith, nat_tests)

@@ -11,7 +11,7 @@ use Rattle.json.specs.Token.{boolean}
 use Rattle.serde_json.specs.Data.{Data}
 use Rattle.serde_json.specs.Written.{compact_text, has_float}
 use Rattle.base_types.specs.Printed.{printed}
-use Rattle.base_types.specs.declared.hash.Hash32.{Hash32}
+use Rattle.command_text.specs.declared.json_text.StoreInfo.{StoreInfo}
 use Rattle.command_text.specs.declared.reply.Background.{Background}
 use Rattle.command_text.specs.declared.reply.Role.{Role}
 use Rattle.command_text.specs.declared.reply.Role.TheVariants as role
@@ -71,16 +71,16 @@ role_is_plain role.Full = refl
 role_is_plain role.Unvalidated = refl
 role_is_plain role.Validated = refl
 
-pub info_text : (background : Option Background) (headers height : ℕ) (role : Role) (tip : Hash32) → MatchOption background ⊤ (λ shown. IsPlain (printed shown.tip)) → IsPlain (printed tip) → compact_text (info_data (background_data background) headers height role (printed tip)) ≡ info_json background headers height role tip
+pub info_text : (info : StoreInfo) → MatchOption info.background ⊤ (λ shown. IsPlain (printed shown.tip)) → IsPlain (printed info.tip) → compact_text (info_data info (background_data info.background) (printed info.tip)) ≡ info_json info
 unfolding escape_byte
-info_text background headers height role tip shown plain =
-    rw (background_text background shown, role_is_plain role, plain) (joined (codes "{\"background\":") (background_json background) (codes ",\"chain\":") (quoted (codes "regtest")) (codes ",\"headers\":") (decimal headers) (codes ",\"height\":") (decimal height) (codes ",\"role\":") (quoted (role_name role)) (codes ",\"tip\":") (quoted (printed tip)) (codes "}"))
+info_text info shown plain =
+    rw (background_text info.background shown, role_is_plain info.role, plain) (joined (codes "{\"background\":") (background_json info.background) (codes ",\"chain\":") (quoted (codes "regtest")) (codes ",\"headers\":") (decimal info.headers) (codes ",\"height\":") (decimal info.height) (codes ",\"role\":") (quoted (role_name info.role)) (codes ",\"tip\":") (quoted (printed info.tip)) (codes "}"))
 
 -- what is written for a value that has no float
 pub gives : {Z E : Type 0} (r : Result (String Z) E) (value shown : Data) (text : List ℕ) → IfOk r (λ s. has_float value ≡ false → string_bytes s ≡ compact_text value) → value ≡ shown → has_float shown ≡ false → compact_text shown ≡ text → IfOk r (λ s. string_bytes s ≡ text)
 gives r value shown text writes same no_float is =
     IfOk-weaker r _ _ (λ s h. h (ap has_float same ∙ no_float) ∙ ap compact_text same ∙ is) writes
 
-pub without_float : (background : Option Background) (headers height : ℕ) (role : Role) (tip : List ℕ) → has_float (info_data (background_data background) headers height role tip) ≡ false
-without_float None headers height role tip = refl
-without_float (Some background) headers height role tip = refl
+pub without_float : (info : StoreInfo) (background : Option Background) (tip : List ℕ) → has_float (info_data info (background_data background) tip) ≡ false
+without_float info None tip = refl
+without_float info (Some background) tip = refl

@@ -4,8 +4,8 @@ use Rattle.json.specs.Print.{escape}
 use Rattle.serde_json.specs.Data.{Data, null, boolean, number, unsigned, string, object, member, no_members}
 use Rattle.base_types.specs.Printed.{printed}
 use Rattle.command_text.specs.Replies.{role_name}
+use Rattle.command_text.specs.declared.json_text.StoreInfo.{StoreInfo}
 use Rattle.command_text.specs.declared.reply.Background.{Background}
-use Rattle.command_text.specs.declared.reply.Role.{Role}
 use Rattle.command_text.specs.declared.reply.TxOutFound.{TxOutFound}
 
 -- nothing in the text is escaped in JSON
@@ -28,11 +28,12 @@ background_data (Some background) = object (
     member (codes "height") (number (unsigned background.height)) (
     member (codes "tip") (string (printed background.tip)) no_members))
 
-abbrev pub info_data : Data → ℕ → ℕ → Role → List ℕ → Data
-info_data background headers height role tip = object (
+-- the state of a store, with the value that shows its background and the text of its tip
+abbrev pub info_data : StoreInfo → Data → List ℕ → Data
+info_data info background tip = object (
     member (codes "background") background (
     member (codes "chain") (string (codes "regtest")) (
-    member (codes "headers") (number (unsigned headers)) (
-    member (codes "height") (number (unsigned height)) (
-    member (codes "role") (string (role_name role)) (
+    member (codes "headers") (number (unsigned info.headers)) (
+    member (codes "height") (number (unsigned info.height)) (
+    member (codes "role") (string (role_name info.role)) (
     member (codes "tip") (string tip) no_members))))))

@@ -6,6 +6,7 @@ use Rattle.std.specs.Result.{result_ok}
 use Rattle.std.specs.Str.Parse.{digits_value}
 use Rattle.hex.specs.Hex.{decode_sized}
 use Rattle.command_text.specs.FileNames.{is_name}
+use Rattle.command_text.specs.declared.field.NumberForm.{NumberForm}
 use Rattle.command_text.specs.declared.line.Line.{Line}
 use Rattle.command_text.specs.declared.line.Line.TheVariants.{Empty, Fold, Headers, Import, Generate, Flush, GetTxOut, Info}
 use Rattle.command_text.specs.declared.line.LineRefused.{LineRefused}
@@ -51,20 +52,23 @@ key_of field = bytes_of 8 BadKey field
 abbrev pub txid_of : List ℕ → Result (List ℕ) LineRefused
 txid_of field = bytes_of 32 BadTxid field
 
--- 1 to so many decimal digits, and a value within a range
-abbrev pub number_of : ℕ → ℕ → ℕ → LineRefused → List ℕ → Result ℕ LineRefused
-number_of digits least most why field =
-    if not (length field == 0) && nat_le (length field) digits && list_all is_ascii_digit field && nat_le least (digits_value 10 field) && nat_le (digits_value 10 field) most
-    then Ok (digits_value 10 field) else Err why
+-- whether a field has this form: decimal digits, at most so many, and a value within the range
+abbrev pub has_form : NumberForm → List ℕ → Bool
+has_form form field =
+    not (length field == 0) && nat_le (length field) form.digits && list_all is_ascii_digit field &&
+    nat_le form.least (digits_value 10 field) && nat_le (digits_value 10 field) form.most
+
+abbrev pub number_of : NumberForm → List ℕ → Result ℕ LineRefused
+number_of form field = if has_form form field then Ok (digits_value 10 field) else Err form.refusal
 
 abbrev pub index_of : List ℕ → Result ℕ LineRefused
-index_of field = number_of 10 0 4294967295 BadIndex field
+index_of field = number_of (record { digits = 10; least = 0; most = 4294967295; refusal = BadIndex }) field
 
 abbrev pub seed_of : List ℕ → Result ℕ LineRefused
-seed_of field = number_of 20 0 18446744073709551615 BadNumber field
+seed_of field = number_of (record { digits = 20; least = 0; most = 18446744073709551615; refusal = BadNumber }) field
 
 abbrev pub count_of : List ℕ → Result ℕ LineRefused
-count_of field = number_of 6 1 100000 BadCount field
+count_of field = number_of (record { digits = 6; least = 1; most = 100000; refusal = BadCount }) field
 
 -- ---- commands
 

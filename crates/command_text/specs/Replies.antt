@@ -6,6 +6,7 @@ use Rattle.base_types.specs.Refusals.{header_rule, body_rule, coin_rule}
 use Rattle.base_types.specs.declared.hash.Hash32.{Hash32}
 use Rattle.base_types.specs.declared.flushes.Chain.{Chain}
 use Rattle.base_types.specs.declared.flushes.Chain.TheVariants as chain
+use Rattle.command_text.specs.declared.json_text.StoreInfo.{StoreInfo}
 use Rattle.command_text.specs.declared.line.LineRefused.{LineRefused}
 use Rattle.command_text.specs.declared.line.LineRefused.TheVariants.{LineTooLong, UnknownCommand, BadName, BadKey, BadTxid, BadIndex, BadNumber, BadCount}
 use Rattle.command_text.specs.declared.reply.Background.{Background}
@@ -74,14 +75,14 @@ abbrev pub background_json : Option Background → List ℕ
 background_json None = codes "null"
 background_json (Some background) = codes "{\"height\":" ++ decimal background.height ++ codes ",\"tip\":" ++ quoted (printed background.tip) ++ codes "}"
 
-abbrev pub info_json : Option Background → ℕ → ℕ → Role → Hash32 → List ℕ
-info_json background headers height role tip =
-    codes "{\"background\":" ++ background_json background ++
+abbrev pub info_json : StoreInfo → List ℕ
+info_json info =
+    codes "{\"background\":" ++ background_json info.background ++
     codes ",\"chain\":" ++ quoted (codes "regtest") ++
-    codes ",\"headers\":" ++ decimal headers ++
-    codes ",\"height\":" ++ decimal height ++
-    codes ",\"role\":" ++ quoted (role_name role) ++
-    codes ",\"tip\":" ++ quoted (printed tip) ++ codes "}"
+    codes ",\"headers\":" ++ decimal info.headers ++
+    codes ",\"height\":" ++ decimal info.height ++
+    codes ",\"role\":" ++ quoted (role_name info.role) ++
+    codes ",\"tip\":" ++ quoted (printed info.tip) ++ codes "}"
 
 -- ---- replies
 
@@ -103,7 +104,7 @@ words_of (Generated count tip) = codes "generated" ++ and_number count ++ and_ha
 words_of (Flushed chain height tip) = codes "flushed" ++ and_word (chain_name chain) ++ and_number height ++ and_hash tip
 words_of (TxOut None) = codes "null"
 words_of (TxOut (Some found)) = coin_json found
-words_of (Info background headers height role tip) = info_json background headers height role tip
+words_of (Info background headers height role tip) = info_json (record { background = background; headers = headers; height = height; role = role; tip = tip })
 
 -- the line of a reply
 abbrev pub reply_text : Reply → List ℕ

@@ -11,10 +11,10 @@ use crate::line::LineRefused;
 use base_types::Hash32;
 use hex::FromHex;
 
-/// The greatest number of characters of a file's name.
+// The greatest number of characters of a file's name.
 const MAX_NAME: usize = 200;
 
-/// The greatest number of blocks of one file.
+// The greatest number of blocks of one file.
 const MAX_COUNT: u64 = 100_000;
 
 // A field of ASCII characters as text.
@@ -40,7 +40,7 @@ fn is_name(field: &[u8]) -> bool
     !field.is_empty() && field.len() <= MAX_NAME && all_visible(field)
 }
 
-/// FILE: 1 to 200 visible ASCII characters.
+// FILE: 1 to 200 visible ASCII characters.
 pub(crate) fn file(field: &[u8]) -> Result<&str, LineRefused>
     ensures value { MatchResult result (λ text. name_of field.now ≡ Ok text.now)
         (λ why. name_of field.now ≡ Err why) }
@@ -53,14 +53,14 @@ pub(crate) fn file(field: &[u8]) -> Result<&str, LineRefused>
     }
 }
 
-/// KEY: 16 hexadecimal digits in either case, which are the key's bytes in their order.
+// KEY: 16 hexadecimal digits in either case, which are the key's bytes in their order.
 pub(crate) fn key(field: &[u8]) -> Result<[u8; 8], LineRefused>
     ensures { result ≡ key_of field.now }
 {
     <[u8; 8]>::from_hex(field).map_err(|_| LineRefused::BadKey)
 }
 
-/// TXID: 64 hexadecimal digits in either case, the hash's last byte first.
+// TXID: 64 hexadecimal digits in either case, the hash's last byte first.
 pub(crate) fn txid(field: &[u8]) -> Result<Hash32, LineRefused>
     ensures { MatchResult (txid_of field.now)
         (λ bytes. result ≡ Ok (record { bytes = reverse bytes }))
@@ -81,44 +81,64 @@ fn all_digits(field: &[u8]) -> bool
     field.iter().all(|byte| byte.is_ascii_digit())
 }
 
-// A number of one to so many decimal digits, leading zeros among them, within a range.
-fn number(
-    field: &[u8],
+// The form of a number: one to so many decimal digits, leading zeros among them, a value within a range, and why a
+// field of another form is refused.
+#[derive(Clone, Copy)]
+struct NumberForm {
     digits: usize,
     least: u64,
     most: u64,
-    why: LineRefused,
-) -> Result<u64, LineRefused>
-    ensures value { result ≡ number_of digits least most why field.now }
-    ensures most { IfOk result (λ n. n ≤ most) }
+    refusal: LineRefused,
+}
+
+fn number(field: &[u8], form: NumberForm) -> Result<u64, LineRefused>
+    ensures value { result ≡ number_of form field.now }
+    ensures most { IfOk result (λ n. n ≤ form.most) }
 {
-    if field.len() > digits || !all_digits(field) {
-        return Err(why);
+    if field.len() > form.digits || !all_digits(field) {
+        return Err(form.refusal);
     }
     match as_text(field).parse::<u64>() {
-        Ok(n) if least <= n && n <= most => Ok(n),
-        _ => Err(why),
+        Ok(n) if form.least <= n && n <= form.most => Ok(n),
+        _ => Err(form.refusal),
     }
 }
 
-/// N, the place of an output: 1 to 10 decimal digits.
+// N, the place of an output: 1 to 10 decimal digits.
 pub(crate) fn index(field: &[u8]) -> Result<u32, LineRefused>
     ensures { result ≡ index_of field.now }
 {
-    let n = number(field, 10, 0, u64::from(u32::MAX), LineRefused::BadIndex)?;
-    Ok(n as u32)
+    let form = NumberForm {
+        digits: 10,
+        least: 0,
+        most: u64::from(u32::MAX),
+        refusal: LineRefused::BadIndex,
+    };
+    Ok(number(field, form)? as u32)
 }
 
-/// NUMBER, which tells generated chains apart: 1 to 20 decimal digits.
+// NUMBER, which tells generated chains apart: 1 to 20 decimal digits.
 pub(crate) fn seed(field: &[u8]) -> Result<u64, LineRefused>
     ensures { result ≡ seed_of field.now }
 {
-    number(field, 20, 0, u64::MAX, LineRefused::BadNumber)
+    let form = NumberForm {
+        digits: 20,
+        least: 0,
+        most: u64::MAX,
+        refusal: LineRefused::BadNumber,
+    };
+    number(field, form)
 }
 
-/// COUNT, from 1 to 100,000: 1 to 6 decimal digits.
+// COUNT, from 1 to 100,000: 1 to 6 decimal digits.
 pub(crate) fn count(field: &[u8]) -> Result<u64, LineRefused>
     ensures { result ≡ count_of field.now }
 {
-    number(field, 6, 1, MAX_COUNT, LineRefused::BadCount)
+    let form = NumberForm {
+        digits: 6,
+        least: 1,
+        most: MAX_COUNT,
+        refusal: LineRefused::BadCount,
+    };
+    number(field, form)
 }

@@ -13,7 +13,17 @@ use base_types::Hash32;
 use serde_json::{Value, json};
 use std::alloc::{AllocError, Global};
 
-/// A coin as JSON without a space.
+// The state of a store.
+#[derive(Clone, Copy)]
+pub(crate) struct StoreInfo {
+    pub(crate) background: Option<Background>,
+    pub(crate) headers: u64,
+    pub(crate) height: u64,
+    pub(crate) role: Role,
+    pub(crate) tip: Hash32,
+}
+
+// A coin as JSON without a space.
 pub(crate) fn coin_json(alloc: Global, coin: &TxOutFound) -> Result<String, AllocError>
     ensures { IfOk result (λ text. string_bytes text ≡ coin_text coin.now) }
 {
@@ -23,21 +33,13 @@ pub(crate) fn coin_json(alloc: Global, coin: &TxOutFound) -> Result<String, Allo
     value.to_string(alloc)
 }
 
-/// The state of a store as JSON without a space.
-pub(crate) fn info_json(
-    alloc: Global,
-    background: &Option<Background>,
-    headers: u64,
-    height: u64,
-    role: Role,
-    tip: &Hash32,
-) -> Result<String, AllocError>
-    ensures { IfOk result (λ text.
-        string_bytes text ≡ info_text background.now headers height role tip.now) }
+// The state of a store as JSON without a space.
+pub(crate) fn info_json(alloc: Global, info: &StoreInfo) -> Result<String, AllocError>
+    ensures { IfOk result (λ text. string_bytes text ≡ info_text info.now) }
 {
-    let background = background_value(alloc, background)?;
-    let tip = hash_text(alloc, tip)?;
-    let value = info_value(alloc, background, headers, height, role, tip)?;
+    let background = background_value(alloc, &info.background)?;
+    let tip = hash_text(alloc, &info.tip)?;
+    let value = info_value(alloc, info, background, tip)?;
     value.to_string(alloc)
 }
 
@@ -93,21 +95,18 @@ fn background_value(alloc: Global, background: &Option<Background>) -> Result<Va
 
 fn info_value(
     alloc: Global,
+    info: &StoreInfo,
     background: Value,
-    headers: u64,
-    height: u64,
-    role: Role,
     tip: String,
 ) -> Result<Value, AllocError>
-    ensures { IfOk result (λ value.
-        view value ≡ info_data (view background) headers height role (string_bytes tip)) }
+    ensures { IfOk result (λ value. view value ≡ info_data info.now (view background) (string_bytes tip)) }
 {
     json!(in alloc; {
         "background": background,
         "chain": "regtest",
-        "headers": headers,
-        "height": height,
-        "role": role_name(role),
+        "headers": info.headers,
+        "height": info.height,
+        "role": role_name(info.role),
         "tip": tip
     })
 }

@@ -10,7 +10,7 @@ use crate::name::Name;
 use base_types::OutPoint;
 use std::alloc::Global;
 
-/// The greatest number of bytes of a line.
+// The greatest number of bytes of a line.
 const MAX_LINE: usize = 4096;
 
 /// What a line of the input asks for, without the bytes that end it. Its fields are separated by one space. The first

@@ -7,17 +7,17 @@ use base_types::Hash32;
 use itoa::Buffer;
 use std::alloc::AllocError;
 
-/// A word of a line.
+// A word of a line.
 #[derive(Clone, Copy)]
 pub(crate) enum Word<'a> {
     Text(&'a str),
-    /// Decimal digits.
+    // Decimal digits.
     Number(u64),
-    /// As people see it.
+    // As people see it.
     Hash(&'a Hash32),
 }
 
-/// Adds a line: a head, and words that each have a space before them. Where memory runs out nothing is added.
+// Adds a line: a head, and words that each have a space before them. Where memory runs out nothing is added.
 pub(crate) fn put_line(out: &mut Vec<u8>, head: &str, words: &[Word]) -> Result<(), AllocError>
     ensures ok { OnOk result (out.new.items ≡ out.old.items ++ line_text head.now words.now) }
     ensures err { OnErr result (out.new.items ≡ out.old.items) }

@@ -3,8 +3,8 @@
 ghost use Rattle.std.specs.Prelude.{◌≡◌, ◌++◌, OnOk, OnErr};
 ghost use Rattle.command_text.specs.Replies.{reply_text};
 
-use crate::json_text::{coin_json, info_json};
-use crate::names::{body_rule, chain_name, coin_rule, refusal, rule_name};
+use crate::json_text::{StoreInfo, coin_json, info_json};
+use crate::names::{chain_name, refusal, rule_name};
 use crate::reply::Reply;
 use crate::word::Word::{Hash, Number, Text};
 use crate::word::put_line;
@@ -25,13 +25,11 @@ pub fn write_reply(out: &mut Vec<u8>, reply: &Reply) -> Result<(), AllocError>
         Reply::Block { hash, rule } => {
             put_line(out, "refused block", &[Hash(hash), Text(rule_name(*rule))])
         }
-        Reply::Body { hash, rule } => {
-            put_line(out, "body", &[Hash(hash), Text(body_rule(*rule))])
-        }
+        Reply::Body { hash, rule } => { put_line(out, "body", &[Hash(hash), Text(rule.name())]) }
         Reply::BlockOf { chain, hash, rule } => put_line(
             out,
             "block",
-            &[Text(chain_name(*chain)), Hash(hash), Text(coin_rule(*rule))],
+            &[Text(chain_name(*chain)), Hash(hash), Text(rule.name())],
         ),
         Reply::Folded {
             frames,
@@ -89,7 +87,14 @@ pub fn write_reply(out: &mut Vec<u8>, reply: &Reply) -> Result<(), AllocError>
             role,
             tip,
         } => {
-            let text = info_json(*out.allocator(), background, *headers, *height, *role, tip)?;
+            let info = StoreInfo {
+                background: *background,
+                headers: *headers,
+                height: *height,
+                role: *role,
+                tip: *tip,
+            };
+            let text = info_json(*out.allocator(), &info)?;
             put_line(out, text.as_str(), &[])
         }
     }

@@ -10,12 +10,12 @@ use Rattle.base_types.specs.declared.snapshot_error.SnapError.TheVariants.{Short
 use Rattle.snapshot_file.specs.Items.{Wrong}
 use Rattle.snapshot_file.specs.Part.{Part, no_group, read_coins, read_part}
 use Rattle.snapshot_file.specs.Steps.{item_len}
-use Rattle.snapshot_file.specs.Fed.{bytes_fed, failed_at, BehindHead, StandsAt, HasFed, newly, is_empty, bad, FeedAnswer, Grows, is_whole, end_of, finish_of, Taken, TakeStep}
+use Rattle.snapshot_file.specs.Fed.{bytes_fed, stage_fault, BehindHead, StandsAt, HasFed, news, is_empty, bad, FeedAnswer, Grows, is_whole, end_of, finish_of, TakesPiece, TakeStep, ahead, feeding}
 use Rattle.snapshot_file.specs.declared.coins.SnapCoin.{SnapCoin}
 use Rattle.snapshot_file.specs.declared.fault.SnapFault.{SnapFault}
 use Rattle.snapshot_file.specs.declared.fault.SnapFault.TheVariants.{NoMemory, Bad}
 use Rattle.snapshot_file.specs.declared.head.SnapHead.{SnapHead}
-use Rattle.snapshot_file.specs.declared.standing.Standing.{Standing}
+use Rattle.snapshot_file.specs.declared.progress.Progress.{Progress}
 use Rattle.snapshot_file.specs.declared.reader.Stage.{Stage}
 use Rattle.snapshot_file.specs.declared.reader.Stage.TheVariants.{Head, Coins, Failed}
 use Rattle.snapshot_file.specs.declared.reader.Pieces.{Pieces}
@@ -43,7 +43,7 @@ whole_end head coins end e = rw (eq-eqb (length coins) head.count e) refl
 short_end : (head : SnapHead) (coins : List SnapCoin) (end : ℕ) → (length coins ≡ head.count → ⊥) → end_of None (is_whole (record { head = Some head; coins = coins; fault = None })) end ≡ Err (Bad Short end)
 short_end head coins end e = rw (ne_eqb (length coins) head.count e) refl
 
-pub finish_whole : (reader : Reader) (s : Standing) (height : Option ℕ) (fed : List ℕ) → reader.stage ≡ Coins s → s.left ≡ 0 → HasFed reader height fed → Ok tt ≡ finish_of height fed
+pub finish_whole : (reader : Reader) (s : Progress) (height : Option ℕ) (fed : List ℕ) → reader.stage ≡ Coins s → s.left ≡ 0 → HasFed reader height fed → Ok tt ≡ finish_of height fed
 finish_whole reader s height fed is none h =
     let b = stands_as reader (Coins s) height fed is h in
     let part = behind_part s reader.at reader.held.items height fed b in
@@ -54,7 +54,7 @@ finish_short_head reader height fed is h =
     let w = stands_as reader Head height fed is h in
     ap (λ (n : ℕ). Err (Bad Short n)) h.count ∙ sym (end_is (read_part height fed) (record { head = None; coins = []; fault = None }) (length fed) (part_none height fed None w.waits))
 
-pub finish_short_coins : (reader : Reader) (s : Standing) (height : Option ℕ) (fed : List ℕ) → reader.stage ≡ Coins s → 0 < s.left → HasFed reader height fed → Err (Bad Short (bytes_fed reader)) ≡ finish_of height fed
+pub finish_short_coins : (reader : Reader) (s : Progress) (height : Option ℕ) (fed : List ℕ) → reader.stage ≡ Coins s → 0 < s.left → HasFed reader height fed → Err (Bad Short (bytes_fed reader)) ≡ finish_of height fed
 finish_short_coins reader s height fed is more h =
     let b = stands_as reader (Coins s) height fed is h in
     ap (λ (n : ℕ). Err (Bad Short n)) h.count
@@ -65,12 +65,12 @@ finish_short_coins reader s height fed is more h =
 pub other : (fault : SnapFault) (error : SnapError) (offset : ℕ) → fault ≡ Bad error offset → fault ≡ NoMemory → ⊥
 other fault error offset is memory = cc
 
-pub on_of : (stage : Stage) → ((fault : SnapFault) → stage ≡ Failed fault → ⊥) → failed_at stage ≡ None
+pub on_of : (stage : Stage) → ((fault : SnapFault) → stage ≡ Failed fault → ⊥) → stage_fault stage ≡ None
 on_of Head unfailed = refl
 on_of (Coins s) unfailed = refl
 on_of (Failed fault) unfailed = absurd (unfailed fault refl)
 
-pub feed_failed : (reader : Reader) (fault : SnapFault) (height : Option ℕ) (fed piece : List ℕ) → reader.stage ≡ Failed fault → HasFed reader height fed → FeedAnswer height fed piece (Err fault) reader
+pub feed_failed : (reader : Reader) (fault : SnapFault) (height : Option ℕ) (fed piece : List ℕ) → reader.stage ≡ Failed fault → HasFed reader height fed → FeedAnswer (feeding height fed piece) (Err fault) reader
 feed_failed reader NoMemory height fed piece is h = tt
 feed_failed reader (Bad error offset) height fed piece is h =
     let b = stands_as reader (Failed (Bad error offset)) height fed is h in
@@ -82,7 +82,7 @@ feed_failed reader (Bad error offset) height fed piece is h =
       coins = ap (λ (p : Part). p.coins) part ∙ ap (λ (p : Part). p.coins) (sym before);
     }
 
-pub feed_taken : (new : Reader) (height : Option ℕ) (fed piece : List ℕ) (pieces : Pieces) → Taken height fed piece new pieces → FeedAnswer height fed piece (Ok pieces) new
+pub feed_taken : (new : Reader) (height : Option ℕ) (fed piece : List ℕ) (pieces : Pieces) → TakesPiece (feeding height fed piece) new pieces → FeedAnswer (feeding height fed piece) (Ok pieces) new
 feed_taken new height fed piece pieces t = (
   t.fed_more,
   record {
@@ -93,9 +93,9 @@ feed_taken new height fed piece pieces t = (
 )
 
 -- nothing became whole
-head_kept : (before part : Part) → Grows before part → None ≡ newly before.head part.head → part.head ≡ before.head
+head_kept : (before part : Part) → Grows before part → None ≡ news before.head part.head → part.head ≡ before.head
 head_kept before part g is = go before.head refl is where
-  go : (h : Option SnapHead) → before.head ≡ h → None ≡ newly h part.head → part.head ≡ before.head
+  go : (h : Option SnapHead) → before.head ≡ h → None ≡ news h part.head → part.head ≡ before.head
   go None e new = sym new ∙ sym e
   go (Some head) e new = g.head head e ∙ sym e
 
@@ -106,7 +106,7 @@ empty_parts pieces e = go pieces.head pieces.coins e where
   go (Some head) [] e = absurd cc
   go head (coin ∷ coins) e = absurd cc
 
-pub feed_refused : (fault : SnapFault) (new mid : Reader) (height : Option ℕ) (fed piece : List ℕ) (pieces : Pieces) → (fault ≡ NoMemory) ⊎ (is_empty pieces ≡ true) → TakeStep height fed piece (Err fault) mid pieces → FeedAnswer height fed piece (Err fault) new
+pub feed_refused : (fault : SnapFault) (new mid : Reader) (height : Option ℕ) (fed piece : List ℕ) (pieces : Pieces) → (fault ≡ NoMemory) ⊎ (is_empty pieces ≡ true) → TakeStep (feeding height fed piece) (Err fault) mid pieces → FeedAnswer (feeding height fed piece) (Err fault) new
 feed_refused NoMemory new mid height fed piece pieces why t = tt
 feed_refused (Bad error offset) new mid height fed piece pieces (inl is) t = absurd cc
 feed_refused (Bad error offset) new mid height fed piece pieces (inr empty) t =
@@ -118,18 +118,18 @@ feed_refused (Bad error offset) new mid height fed piece pieces (inr empty) t =
     }
 
 pub feed_later : (fault : SnapFault) (old mid new : Reader) (end : ℕ) (height : Option ℕ) (fed piece : List ℕ) (pieces : Pieces) → HasFed old height fed → IsBytes piece → end ≡ bytes_fed old + length piece → new.stage ≡ Failed fault → bytes_fed new ≡ end
-    → (fault ≡ NoMemory → ⊥) → is_empty pieces ≡ false → TakeStep height fed piece (Err fault) mid pieces → FeedAnswer height fed piece (Ok pieces) new
+    → (fault ≡ NoMemory → ⊥) → is_empty pieces ≡ false → TakeStep (feeding height fed piece) (Err fault) mid pieces → FeedAnswer (feeding height fed piece) (Ok pieces) new
 feed_later NoMemory old mid new end height fed piece pieces h fits sum stage count memory some t = absurd (memory refl)
 feed_later (Bad error offset) old mid new end height fed piece pieces h fits sum stage count memory some t = (
   record {
     bytes = bytes_append fed piece h.bytes fits;
     count = omega (arith, count, sum, h.count, length-append fed piece);
-    stands = subst (λ (s : Stage). StandsAt s new.at new.held.items height (fed ++ piece)) (sym stage) (t.behind some);
+    stands = subst (λ (s : Stage). StandsAt s (ahead new.at new.held.items) height (fed ++ piece)) (sym stage) (t.behind some);
   },
   record {
     became = t.became;
     some = inr some;
-    later = ap failed_at stage ∙ ap (λ (f : Option Wrong). option_map bad f) (sym t.fault);
+    later = ap stage_fault stage ∙ ap (λ (f : Option Wrong). option_map bad f) (sym t.fault);
   },
 )
 
@@ -142,8 +142,8 @@ empty_length (x ∷ xs) e = absurd (omega arith)
 restart : (height : Option ℕ) (count left members offset : ℕ) (txid : Hash32) (body held : List ℕ) → body ≡ [] → left ≡ count → members ≡ 0 → held ≡ [] → offset ≡ 51 → (ys : List ℕ) → read_coins height count 0 no_group 51 (body ++ ys) ≡ read_coins height left members txid offset (held ++ ys)
 restart height count left members offset txid body held a b c d e ys = rw (a, b, c, d, e) (group_free height count no_group txid 51 ys)
 
-pub height_set : (s : Standing) (height : ℕ) (offset : ℕ) (held : List ℕ) (before : Option ℕ) (fed : List ℕ) → length fed ≡ 51 → BehindHead s offset held before fed
-    → BehindHead (record { height = Some height; left = s.left; members = s.members; txid = s.txid }) offset held (Some height) fed
+pub height_set : (s : Progress) (height : ℕ) (offset : ℕ) (held : List ℕ) (before : Option ℕ) (fed : List ℕ) → length fed ≡ 51 → BehindHead s (ahead offset held) before fed
+    → BehindHead (record { height = Some height; left = s.left; members = s.members; txid = s.txid }) (ahead offset held) (Some height) fed
 height_set s height offset held before fed len b =
     let none : b.body ≡ [] = empty_length b.body (omega (arith, b.len)) in
     let f = b.fresh none in
@@ -161,7 +161,7 @@ height_set s height offset held before fed len b =
     }
 
 -- with the metadata whole and nothing behind it, the reader stands behind it
-pub stands_behind : (reader : Reader) (before : Option ℕ) (fed : List ℕ) → bytes_fed reader ≡ 51 → HasFed reader before fed → ((s : Standing) → reader.stage ≡ Coins s → ⊥) → ⊥
+pub stands_behind : (reader : Reader) (before : Option ℕ) (fed : List ℕ) → bytes_fed reader ≡ 51 → HasFed reader before fed → ((s : Progress) → reader.stage ≡ Coins s → ⊥) → ⊥
 stands_behind reader before fed len h never = go reader.stage refl where
   go : (stage : Stage) → reader.stage ≡ stage → ⊥
   go Head is =

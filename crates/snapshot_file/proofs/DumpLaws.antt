@@ -16,7 +16,7 @@ use Rattle.base_types.specs.declared.hash.OutPoint.{OutPoint}
 use Rattle.base_types.specs.declared.coin.Coin.{Coin}
 use Rattle.coin_codec.specs.KeyText.{key_text}
 use Rattle.snapshot_file.specs.Text.{Group, head_text, group_head_text, group_text, member_text, entry_of, coins_of, GroupFits}
-use Rattle.snapshot_file.specs.Dump.{keyed, by_key, dump_coins, alone, put_first, groups_of, dump_groups, dump_text, EntryFits, HasWholeTxid, InKeyOrder, SameCoins, IsDump}
+use Rattle.snapshot_file.specs.Dump.{with_keys, by_key, dump_coins, group_of_one, put_first, groups_of, dump_groups, dump_text, EntryFits, HasWholeTxid, InKeyOrder, SameCoins, IsDump}
 use Rattle.snapshot_file.proofs.WholeFiles.{coins_cons}
 use Rattle.snapshot_file.proofs.GroupLaws.{groups_some, groups_rise, groups_again}
 
@@ -50,11 +50,11 @@ module _ (P : OutPoint × Coin → Type 0) where
     go later Equal is = ((sym (distinct (key_text e.0) row.0 is), p), all.1)
     go later Greater is = (all.0, later)
 
-  rows_of : (es : List (OutPoint × Coin)) → AllByRecursion P es → AllByRecursion (IsRow P) (entries (from_entries {R = R} (keyed es)))
+  rows_of : (es : List (OutPoint × Coin)) → AllByRecursion P es → AllByRecursion (IsRow P) (entries (from_entries {R = R} (with_keys es)))
   rows_of [] all = subst (λ (rows : List Row). AllByRecursion (IsRow P) rows) (sym no_rows) tt
-  rows_of (e ∷ es) all = subst (λ (rows : List Row). AllByRecursion (IsRow P) rows) (sym (entries-insert nat_list_cmp_total (from_entries (keyed es)) (key_text e.0) e)) (put_rows e (entries (from_entries {R = R} (keyed es))) all.0 (rows_of es all.1))
+  rows_of (e ∷ es) all = subst (λ (rows : List Row). AllByRecursion (IsRow P) rows) (sym (entries-insert nat_list_cmp_total (from_entries (with_keys es)) (key_text e.0) e)) (put_rows e (entries (from_entries {R = R} (with_keys es))) all.0 (rows_of es all.1))
 
-keyed_rows : (P : OutPoint × Coin → Type 0) (rows : List Row) → AllByRecursion (IsRow P) rows → keyed (map (λ row. row.1) rows) ≡ rows
+keyed_rows : (P : OutPoint × Coin → Type 0) (rows : List Row) → AllByRecursion (IsRow P) rows → with_keys (map (λ row. row.1) rows) ≡ rows
 keyed_rows P [] all i = []
 keyed_rows P (row ∷ rows) all i = (sym all.0.0 i, row.1) ∷ keyed_rows P rows all.1 i
 
@@ -69,7 +69,7 @@ any_all : (es : List (OutPoint × Coin)) → AllByRecursion Any es
 any_all [] = tt
 any_all (e ∷ es) = (tt, any_all es)
 
-dump_rows : (coins : Coins) → keyed (dump_coins coins) ≡ entries (by_key coins)
+dump_rows : (coins : Coins) → with_keys (dump_coins coins) ≡ entries (by_key coins)
 unfolding dump_coins
 dump_rows coins = keyed_rows Any (entries (by_key coins)) (rows_of Any (entries coins) (any_all (entries coins)))
 
@@ -81,29 +81,29 @@ dump_ordered : (coins : Coins) → InKeyOrder (dump_coins coins)
 dump_ordered coins = subst (λ (rows : List Row). T (is_sorted R rows)) (sym (dump_rows coins)) (entries_sorted (by_key coins))
 
 dump_same : (coins : Coins) → SameCoins (dump_coins coins) (entries coins)
-dump_same coins key = ap (λ (rows : List Row). find R key rows) (dump_rows coins) ∙ sym (get-entries (by_key coins) key) ∙ get-from_entries nat_list_cmp_total (keyed (entries coins)) key
+dump_same coins key = ap (λ (rows : List Row). find R key rows) (dump_rows coins) ∙ sym (get-entries (by_key coins) key) ∙ get-from_entries nat_list_cmp_total (with_keys (entries coins)) key
 
-unkeyed : (es : List (OutPoint × Coin)) → map (λ (row : Row). row.1) (keyed es) ≡ es
+unkeyed : (es : List (OutPoint × Coin)) → map (λ (row : Row). row.1) (with_keys es) ≡ es
 unkeyed [] = refl
 unkeyed (e ∷ es) = ap (λ (l : List (OutPoint × Coin)). e ∷ l) (unkeyed es)
 
 dump_only : (coins : Coins) (others : List (OutPoint × Coin)) → InKeyOrder others → SameCoins others (entries coins) → others ≡ dump_coins coins
 dump_only coins others ordered same =
-    let rows = same_entries R nat_list_cmp_total distinct (keyed others) (keyed (dump_coins coins)) ordered (dump_ordered coins) (λ key. same key ∙ sym (dump_same coins key)) in
+    let rows = same_entries R nat_list_cmp_total distinct (with_keys others) (with_keys (dump_coins coins)) ordered (dump_ordered coins) (λ key. same key ∙ sym (dump_same coins key)) in
     sym (unkeyed others) ∙ ap (λ (l : List Row). map (λ (row : Row). row.1) l) rows ∙ unkeyed (dump_coins coins)
 
 -- ---- coins as groups
 
 put_first_coins : (e : OutPoint × Coin) (groups : List Group) → coins_of (put_first e groups) ≡ e ∷ coins_of groups
 unfolding coins_of
-put_first_coins e [] = coins_cons None (alone e) []
+put_first_coins e [] = coins_cons None (group_of_one e) []
 put_first_coins e (g ∷ gs) = elim (cases_Bool (bytes_eq e.0.txid.bytes g.txid.bytes)) [
   | inl t ↦
       let same : e.0.txid.bytes ≡ g.txid.bytes = (bytes_eq-Decides e.0.txid.bytes g.txid.bytes).0 t in
       let joined : Group = record { txid = g.txid; members = (e.0.index, e.1) ∷ g.members } in
       let key : entry_of g.txid (e.0.index, e.1) ≡ e = (λ i. (record { txid = record { bytes = sym same i }; index = e.0.index }, e.1)) in
       rw t (coins_cons None joined gs ∙ ap (λ (x : OutPoint × Coin). x ∷ map (entry_of g.txid) g.members ++ coins_of gs) key ∙ ap (λ (l : List (OutPoint × Coin)). e ∷ l) (sym (coins_cons None g gs)))
-  | inr f ↦ rw f (coins_cons None (alone e) (g ∷ gs))
+  | inr f ↦ rw f (coins_cons None (group_of_one e) (g ∷ gs))
 ]
 
 groups_coins : (es : List (OutPoint × Coin)) → coins_of (groups_of es) ≡ es
@@ -111,7 +111,7 @@ unfolding coins_of groups_of
 groups_coins [] = refl
 groups_coins (e ∷ es) = put_first_coins e (groups_of es) ∙ ap (λ (l : List (OutPoint × Coin)). e ∷ l) (groups_coins es)
 
-alone_fits : (e : OutPoint × Coin) → EntryFits e → GroupFits (alone e)
+alone_fits : (e : OutPoint × Coin) → EntryFits e → GroupFits (group_of_one e)
 alone_fits e fits = record { txid = fits.txid; some = omega arith; members = (record { index = fits.index; coin = fits.coin }, tt) }
 
 put_first_fits : (e : OutPoint × Coin) (groups : List Group) → EntryFits e → AllByRecursion GroupFits groups → AllByRecursion GroupFits (put_first e groups)

@@ -12,13 +12,14 @@ use Rattle.std.specs.FinMap.Entries.{below_all}
 use Rattle.std.proofs.lemmas.Bool.{cases_Bool}
 use Rattle.std.proofs.lemmas.Slice.Eq.{bytes_eq-Decides}
 use Rattle.base_types.specs.Bytes.{varint}
-use Rattle.base_types.specs.Keys.{hash_cmp, hash_cmp_total, hash_ties}
+use Rattle.base_types.specs.Keys.{hash_cmp}
+use Rattle.base_types.proofs.KeyOrders.{hash_cmp_total, hash_ties}
 use Rattle.base_types.specs.declared.hash.Hash32.{Hash32}
 use Rattle.base_types.specs.declared.hash.OutPoint.{OutPoint}
 use Rattle.base_types.specs.declared.coin.Coin.{Coin}
 use Rattle.coin_codec.specs.KeyText.{key_text}
 use Rattle.snapshot_file.specs.Text.{Group, entry_of, coins_of}
-use Rattle.snapshot_file.specs.Dump.{keyed, alone, put_first, groups_of, HasMembers, HasWholeTxid, InKeyOrder, TxidsRise}
+use Rattle.snapshot_file.specs.Dump.{with_keys, group_of_one, put_first, groups_of, HasMembers, HasWholeTxid, InKeyOrder, TxidsRise}
 use Rattle.snapshot_file.proofs.WholeFiles.{coins_cons}
 
 abbrev Entry : Type 0
@@ -97,10 +98,10 @@ unfolding key_text
 key_order a b first second less =
     front_first a.txid.bytes b.txid.bytes (varint a.index) (varint b.index) (first ∙ sym second) less
 
-all_up : (e : Entry) (es : List Entry) → length e.0.txid.bytes ≡ 32 → AllByRecursion HasWholeTxid es → T (below_all bytes_cmp (key_text e.0) (keyed es)) → AllByRecursion (λ other. UpTo e.0.txid other.0.txid) es
+all_up : (e : Entry) (es : List Entry) → length e.0.txid.bytes ≡ 32 → AllByRecursion HasWholeTxid es → T (below_all bytes_cmp (key_text e.0) (with_keys es)) → AllByRecursion (λ other. UpTo e.0.txid other.0.txid) es
 all_up e [] whole all below = tt
 all_up e (other ∷ es) whole all below =
-    let parts = split (is_lt (bytes_cmp (key_text e.0) (key_text other.0))) (below_all bytes_cmp (key_text e.0) (keyed es)) below in
+    let parts = split (is_lt (bytes_cmp (key_text e.0) (key_text other.0))) (below_all bytes_cmp (key_text e.0) (with_keys es)) below in
     (key_order e.0 other.0 whole all.0 (is_less _ parts.0), all_up e es whole all.1 parts.1)
 
 -- ---- the groups rise
@@ -119,7 +120,7 @@ rise_first e (g ∷ gs) up rise = elim (cases_Bool (bytes_eq e.0.txid.bytes g.tx
   | inl t ↦ rw t rise
   | inr f ↦ rw f (apart f up.0)
 ] where
-  apart : bytes_eq e.0.txid.bytes g.txid.bytes ≡ false → UpTo e.0.txid g.txid → TxidsRise (alone e ∷ g ∷ gs)
+  apart : bytes_eq e.0.txid.bytes g.txid.bytes ≡ false → UpTo e.0.txid g.txid → TxidsRise (group_of_one e ∷ g ∷ gs)
   apart f (inl same) =
       let t = (bytes_eq-Decides e.0.txid.bytes g.txid.bytes).1 same in
       absurd cc
@@ -129,7 +130,7 @@ pub groups_rise : (es : List Entry) → InKeyOrder es → AllByRecursion HasWhol
 unfolding groups_of IsStrictlySortedBy
 groups_rise [] ordered whole = tt
 groups_rise (e ∷ es) ordered whole =
-    let parts = split (below_all bytes_cmp (key_text e.0) (keyed es)) (is_sorted bytes_cmp (keyed es)) ordered in
+    let parts = split (below_all bytes_cmp (key_text e.0) (with_keys es)) (is_sorted bytes_cmp (with_keys es)) ordered in
     rise_first e (groups_of es) (holds (UpTo e.0.txid) es (all_up e es whole.0 whole.1 parts.0)) (groups_rise es parts.1 whole.1)
 
 -- ---- no other groups of the same coins rise

@@ -6,7 +6,7 @@ use Rattle.base_types.specs.Reading.{Input, place}
 use Rattle.base_types.specs.Codec.{Reader}
 use Rattle.base_types.specs.declared.hash.Hash32.{Hash32}
 use Rattle.snapshot_file.specs.Items.{Wrong, Stop, from_first, head_at, group_at, member_at}
-use Rattle.snapshot_file.specs.Part.{Found, met, also, placed, read_member, ended, read_coins, no_group, behind_head, read_part}
+use Rattle.snapshot_file.specs.Part.{Found, with_rest, also, snap_coin, read_member, at_end, read_coins, no_group, behind_head, read_part}
 use Rattle.snapshot_file.specs.Fed.{Grows}
 use Rattle.snapshot_file.specs.declared.coins.SnapCoin.{SnapCoin}
 use Rattle.snapshot_file.specs.declared.head.SnapHead.{SnapHead}
@@ -31,24 +31,24 @@ also_grows coin found later g = record {
 }
 
 module _ {X : Type 0} (offset : ℕ) (next : X → ℕ → List ℕ → Found) (ys : List ℕ) (each : (x : X) (p : ℕ) (rest : List ℕ) → FoundGrows (next x p rest) (next x p (rest ++ ys))) where
-  result_grows : (r s : Result (X × Input) Stop) → item.Grows stays ys r s → FoundGrows (met offset next r) (met offset next s)
+  result_grows : (r s : Result (X × Input) Stop) → item.Grows stays ys r s → FoundGrows (with_rest offset next r) (with_rest offset next s)
   result_grows (Ok p) s e = rw (e, place-more ys p.1) (each p.0 (offset + place p.1) p.1.rest)
-  result_grows (Err None) s e = record { others = (met offset next s).coins; coins = refl; fault = λ wrong absent. absurd cc }
-  result_grows (Err (Some wrong)) s e = found_same (met offset next (Err (Some wrong))) (met offset next s) (ap (λ (r : Result (X × Input) Stop). met offset next r) (e refl))
+  result_grows (Err None) s e = record { others = (with_rest offset next s).coins; coins = refl; fault = λ wrong absent. absurd cc }
+  result_grows (Err (Some wrong)) s e = found_same (with_rest offset next (Err (Some wrong))) (with_rest offset next s) (ap (λ (r : Result (X × Input) Stop). with_rest offset next r) (e refl))
 
-  met_grows : (read : Reader Stop X) → ReaderGrows stays read → (bytes : List ℕ) → FoundGrows (met offset next (read (from_first bytes))) (met offset next (read (from_first (bytes ++ ys))))
-  met_grows read grows bytes = subst (λ (i : Input). FoundGrows (met offset next (read (from_first bytes))) (met offset next (read i))) (more_first bytes ys) (result_grows (read (from_first bytes)) (read (more ys (from_first bytes))) (grows ys (from_first bytes)))
+  met_grows : (read : Reader Stop X) → ReaderGrows stays read → (bytes : List ℕ) → FoundGrows (with_rest offset next (read (from_first bytes))) (with_rest offset next (read (from_first (bytes ++ ys))))
+  met_grows read grows bytes = subst (λ (i : Input). FoundGrows (with_rest offset next (read (from_first bytes))) (with_rest offset next (read i))) (more_first bytes ys) (result_grows (read (from_first bytes)) (read (more ys (from_first bytes))) (grows ys (from_first bytes)))
 
 member_step : (height : Option ℕ) (txid : Hash32) (others : ℕ → List ℕ → Found) (ys : List ℕ) → ((p : ℕ) (rest : List ℕ) → FoundGrows (others p rest) (others p (rest ++ ys))) → (offset : ℕ) (bytes : List ℕ)
     → FoundGrows (read_member height txid others offset bytes) (read_member height txid others offset (bytes ++ ys))
 unfolding read_member
 member_step height txid others ys each offset bytes =
-    met_grows offset (λ member next rest. also (placed txid offset member) (others next rest)) ys (λ member p rest. also_grows (placed txid offset member) (others p rest) (others p (rest ++ ys)) (each p rest)) (member_at height) (member_grows height) bytes
+    met_grows offset (λ member next rest. also (snap_coin txid offset member) (others next rest)) ys (λ member p rest. also_grows (snap_coin txid offset member) (others p rest) (others p (rest ++ ys)) (each p rest)) (member_at height) (member_grows height) bytes
 
 coins_grow : (height : Option ℕ) (left members : ℕ) (txid : Hash32) (ys : List ℕ) (offset : ℕ) (bytes : List ℕ) → FoundGrows (read_coins height left members txid offset bytes) (read_coins height left members txid offset (bytes ++ ys))
 unfolding read_coins
-coins_grow height zero members txid ys offset [] = record { others = (ended offset ys).coins; coins = refl; fault = λ wrong absent. absurd cc }
-coins_grow height zero members txid ys offset (byte ∷ rest) = found_same (ended offset (byte ∷ rest)) (ended offset (byte ∷ rest)) refl
+coins_grow height zero members txid ys offset [] = record { others = (at_end offset ys).coins; coins = refl; fault = λ wrong absent. absurd cc }
+coins_grow height zero members txid ys offset (byte ∷ rest) = found_same (at_end offset (byte ∷ rest)) (at_end offset (byte ∷ rest)) refl
 coins_grow height (suc left) zero txid ys offset bytes =
     met_grows offset (λ group next rest. read_member height group.0 (read_coins height left (group.1 - 1) group.0) next rest) ys (λ group p rest. member_step height group.0 (read_coins height left (group.1 - 1) group.0) ys (coins_grow height left (group.1 - 1) group.0 ys) p rest) (group_at (suc left)) (group_grows (suc left)) bytes
 coins_grow height (suc left) (suc members) txid ys offset bytes = member_step height txid (read_coins height left members txid) ys (coins_grow height left members txid ys) offset bytes

@@ -9,7 +9,8 @@ use Rattle.base_types.specs.Reading.{Input, ◌>>=◌, bytes_at, number_at}
 use Rattle.base_types.specs.Codec.{at, field}
 use Rattle.base_types.specs.declared.snapshot_error.SnapError.{SnapError}
 use Rattle.base_types.specs.declared.snapshot_error.SnapError.TheVariants.{BadMagic, BadVersion, WrongNetwork}
-use Rattle.snapshot_file.specs.Text.{magic, version, network}
+use Rattle.base_types.specs.Parameters.{message_start}
+use Rattle.snapshot_file.specs.Text.{magic, version}
 use Rattle.snapshot_file.specs.Items.{Wrong, Stop, from_first, as_stop, mark_at, head_at}
 use Rattle.snapshot_file.specs.Steps.{HeadWhole, HeadWaits}
 use Rattle.snapshot_file.specs.declared.head.SnapHead.{SnapHead}
@@ -52,7 +53,7 @@ all_decided : (bytes : List ℕ) → 51 ≤ length bytes → Decided 0 (head_at 
 unfolding head_at
 all_decided bytes le = decided_then 46 0 (mark_at (BadMagic, 0) magic (from_first bytes)) _ (mark_decided (BadMagic, 0) magic 46 (length bytes) bytes (omega arith)) (λ _ a le.
     decided_then 44 0 (mark_at (BadVersion, 5) version a) _ (mark_decided (BadVersion, 5) version 44 a.end a.rest (omega arith)) (λ _ b le.
-    decided_then 40 0 (mark_at (WrongNetwork, 7) network b) _ (mark_decided (WrongNetwork, 7) network 40 b.end b.rest (omega arith)) (λ _ c le.
+    decided_then 40 0 (mark_at (WrongNetwork, 7) message_start b) _ (mark_decided (WrongNetwork, 7) message_start 40 b.end b.rest (omega arith)) (λ _ c le.
     decided_then 8 0 (field as_stop (bytes_at 32) c) _ (bytes_decided 8 32 c le) (λ base d le.
     decided_then 0 0 (field as_stop (number_at w64) d) _ (number_decided d le) (λ count e le. le)))))
 

@@ -4,7 +4,8 @@ use Rattle.std.proofs.Common.{ap, ◌∙◌, arith, get_or}
 use Rattle.std.proofs.Math.Seq.{drop-cons}
 use Rattle.base_types.specs.Bytes.{compact}
 use Rattle.base_types.specs.Reading.{Input, on_rest, byte_at, length_at, Spelled}
-use Rattle.base_types.specs.Codec.{at, renamed, bind_ok, ok_is}
+use Rattle.base_types.specs.Codec.{at, renamed}
+use Rattle.base_types.proofs.Codecs.{bind_ok, ok_is}
 use Rattle.base_types.specs.declared.cursor.ReadError.{ReadError}
 use Rattle.base_types.specs.declared.refused.CoinError.{CoinError}
 use Rattle.coin_codec.specs.Reading.{Fails as CoinFails}

@@ -6,16 +6,19 @@ use Rattle.std.proofs.lemmas.Bool.{ltb-false, le-ltb, eqb-true, eqb-false, eq-eq
 use Rattle.std.proofs.lemmas.List.{length-append, drop_at}
 use Rattle.base_types.specs.Bytes.{compact, number_text}
 use Rattle.base_types.specs.Reading.{Input, place, bytes_at, number_at, compact_at, length_at}
-use Rattle.base_types.specs.Codec.{Reader, IsBytes, IsBytes-rest, Takes, Takes-then, IsCodec, at, field, renamed, field_codec, step, chosen, guard_ok, ok_is}
-use Rattle.base_types.specs.Fields.{compact_field, length_field, bytes_field, number_field, wide64}
+use Rattle.base_types.specs.Codec.{Reader, IsBytes, at, field, renamed}
+use Rattle.base_types.proofs.Codecs.{IsBytes-rest, Takes, Takes-then, IsCodec, field_codec, step, chosen, guard_ok, ok_is}
+use Rattle.base_types.proofs.Fields.{compact_field, length_field, bytes_field, number_field, wide64}
 use Rattle.base_types.specs.declared.hash.Hash32.{Hash32}
 use Rattle.base_types.specs.declared.coin.Coin.{Coin}
 use Rattle.base_types.specs.declared.refused.CoinError.{CoinError}
 use Rattle.base_types.specs.declared.snapshot_error.SnapError.TheVariants.{BadMagic, BadVersion, WrongNetwork, EmptyGroup, CountMismatch, HeightAbove}
-use Rattle.coin_codec.specs.CoinText.{coin_text, CoinFits}
-use Rattle.coin_codec.specs.CoinLaws.{coin_codec}
+use Rattle.coin_codec.specs.CoinText.{coin_text}
+use Rattle.base_types.specs.Coins.{CoinFits}
+use Rattle.coin_codec.proofs.CoinLaws.{coin_codec}
 use Rattle.coin_codec.specs.Reading.{coin_at}
-use Rattle.snapshot_file.specs.Text.{magic, version, network, head_text, group_head_text, member_text, MemberFits}
+use Rattle.base_types.specs.Parameters.{message_start}
+use Rattle.snapshot_file.specs.Text.{magic, version, head_text, group_head_text, member_text, MemberFits}
 use Rattle.snapshot_file.specs.Items.{Wrong, Stop, from_first, as_stop, coin_stop, mark_at, head_at, group_at, is_above, member_at}
 use Rattle.snapshot_file.specs.ItemReading.{Fails, ReadsItem, ReadsFront}
 use Rattle.snapshot_file.specs.declared.head.SnapHead.{SnapHead}
@@ -109,7 +112,7 @@ unfolding head_at head_text
 head_takes i x j fits e =
     let a = step (mark_codec _ magic) i _ (x, j) fits e in
     let b = step (mark_codec _ version) a.after _ (x, j) a.takes.rest_fits a.goes_on in
-    let c = step (mark_codec _ network) b.after _ (x, j) b.takes.rest_fits b.goes_on in
+    let c = step (mark_codec _ message_start) b.after _ (x, j) b.takes.rest_fits b.goes_on in
     let d = step hash_codec c.after _ (x, j) c.takes.rest_fits c.goes_on in
     let n = step number_codec d.after _ (x, j) d.takes.rest_fits d.goes_on in
     let made : SnapHead × Input = (record { base = record { bytes = d.value }; count = n.value }, n.after) in
@@ -125,11 +128,11 @@ head_again x end rest fits =
     let n = number_text w64 x.count in
     let base_fits : length x.base.bytes ≡ 32 = fits.base in
     let count_fits : x.count < 2 ^ 64 = fits.count in
-    ap (λ (y : List ℕ). head_at (at end y)) (five magic version network x.base.bytes n rest) ∙
+    ap (λ (y : List ℕ). head_at (at end y)) (five magic version message_start x.base.bytes n rest) ∙
     rw (
-      mark_again (BadMagic, 0) magic end (version ++ (network ++ (x.base.bytes ++ (n ++ rest)))),
-      mark_again (BadVersion, 5) version end (network ++ (x.base.bytes ++ (n ++ rest))),
-      mark_again (WrongNetwork, 7) network end (x.base.bytes ++ (n ++ rest)),
+      mark_again (BadMagic, 0) magic end (version ++ (message_start ++ (x.base.bytes ++ (n ++ rest)))),
+      mark_again (BadVersion, 5) version end (message_start ++ (x.base.bytes ++ (n ++ rest))),
+      mark_again (WrongNetwork, 7) message_start end (x.base.bytes ++ (n ++ rest)),
       hash_codec.again x.base.bytes end (n ++ rest) base_fits,
       number_codec.again x.count end rest count_fits,
     ) refl

@@ -8,8 +8,9 @@ use Rattle.base_types.specs.Codec.{at, field, renamed}
 use Rattle.base_types.specs.declared.refused.CoinError.{CoinError}
 use Rattle.base_types.specs.declared.refused.CoinError.TheVariants.{HeightTooLarge, BadAmount, UncompressedKey, ScriptTooLong}
 use Rattle.coin_codec.specs.ScriptForm.{kept_len, short_form}
-use Rattle.coin_codec.specs.Reading.{named, too_few, tested_at, is_u32, is_amount_code, is_script_code, amount_at, kept_at, raw_at, script_at, coin_at}
-use Rattle.snapshot_file.specs.Text.{magic, version, network}
+use Rattle.coin_codec.specs.Reading.{varint_wrong, bytes_wrong, checked_varint_at, is_u32, is_amount_code, is_script_code, amount_at, kept_script_at, raw_script_at, script_at, coin_at}
+use Rattle.base_types.specs.Parameters.{message_start}
+use Rattle.snapshot_file.specs.Text.{magic, version}
 use Rattle.snapshot_file.specs.Items.{Wrong, Stop, as_stop, coin_stop, mark_at, head_at, group_at, is_above, member_at}
 use Rattle.snapshot_file.proofs.Growing.{more, place-more, Grows, ReaderGrows, grows_then, varint_grows, bytes_grows, number_grows, compact_grows, length_grows, IsSteady, field_grows}
 
@@ -18,20 +19,20 @@ use Rattle.snapshot_file.proofs.Growing.{more, place-more, Grows, ReaderGrows, g
 abbrev coin_stays : CoinError × ℕ → Bool
 coin_stays wrong = is_some (coin_stop wrong)
 
-named_steady : (error : CoinError) → IsSteady coin_stays (named error)
+named_steady : (error : CoinError) → IsSteady coin_stays (varint_wrong error)
 named_steady error = record {
   short = λ i. refl;
   long = λ ys i t. ap (λ (p : ℕ). (error, p)) (place-more ys i);
   large = λ ys i t. ap (λ (p : ℕ). (error, p)) (place-more ys i);
 }
 
-too_few_steady : IsSteady coin_stays too_few
+too_few_steady : IsSteady coin_stays bytes_wrong
 too_few_steady = record { short = λ i. refl; long = λ ys i t. absurd cc; large = λ ys i t. absurd cc }
 
-tested_grows : (error : CoinError) (passes : ℕ → Bool) → ReaderGrows coin_stays (tested_at (named error) passes)
-unfolding tested_at
-tested_grows error passes ys i = grows_then coin_stays ys (field (named error) varint_at i) (field (named error) varint_at (more ys i)) _ _
-    (field_grows coin_stays (named error) varint_at (named_steady error) varint_grows ys i)
+tested_grows : (error : CoinError) (passes : ℕ → Bool) → ReaderGrows coin_stays (checked_varint_at (varint_wrong error) passes)
+unfolding checked_varint_at
+tested_grows error passes ys i = grows_then coin_stays ys (field (varint_wrong error) varint_at i) (field (varint_wrong error) varint_at (more ys i)) _ _
+    (field_grows coin_stays (varint_wrong error) varint_at (named_steady error) varint_grows ys i)
     (λ n j. elim (cases_Bool (passes n)) [
       | inl t ↦ rw t refl
       | inr f ↦ rw f (λ t. ap (λ (p : ℕ). Err (error, p)) (place-more ys i))
@@ -39,25 +40,25 @@ tested_grows error passes ys i = grows_then coin_stays ys (field (named error) v
 
 amount_grows : ReaderGrows coin_stays amount_at
 unfolding amount_at
-amount_grows ys i = grows_then coin_stays ys (tested_at (named BadAmount) is_amount_code i) (tested_at (named BadAmount) is_amount_code (more ys i)) _ _ (tested_grows BadAmount is_amount_code ys i) (λ n j. refl)
+amount_grows ys i = grows_then coin_stays ys (checked_varint_at (varint_wrong BadAmount) is_amount_code i) (checked_varint_at (varint_wrong BadAmount) is_amount_code (more ys i)) _ _ (tested_grows BadAmount is_amount_code ys i) (λ n j. refl)
 
-taken_grows : (n : ℕ) → ReaderGrows coin_stays (field too_few (bytes_at n))
-taken_grows n = field_grows coin_stays too_few (bytes_at n) too_few_steady (bytes_grows n)
+taken_grows : (n : ℕ) → ReaderGrows coin_stays (field bytes_wrong (bytes_at n))
+taken_grows n = field_grows coin_stays bytes_wrong (bytes_at n) too_few_steady (bytes_grows n)
 
-kept_grows : (mark : ℕ) → ReaderGrows coin_stays (kept_at mark)
-unfolding kept_at
-kept_grows mark ys i = grows_then coin_stays ys (field too_few (bytes_at (kept_len mark)) i) (field too_few (bytes_at (kept_len mark)) (more ys i)) _ _ (taken_grows (kept_len mark) ys i) (λ kept j. refl)
+kept_grows : (mark : ℕ) → ReaderGrows coin_stays (kept_script_at mark)
+unfolding kept_script_at
+kept_grows mark ys i = grows_then coin_stays ys (field bytes_wrong (bytes_at (kept_len mark)) i) (field bytes_wrong (bytes_at (kept_len mark)) (more ys i)) _ _ (taken_grows (kept_len mark) ys i) (λ kept j. refl)
 
-raw_grows : (began len : ℕ) → ReaderGrows coin_stays (raw_at began len)
-unfolding raw_at
-raw_grows began len ys i = grows_then coin_stays ys (field too_few (bytes_at len) i) (field too_few (bytes_at len) (more ys i)) _ _ (taken_grows len ys i) (λ script j. elim (cases_Bool (is_some (short_form script))) [
+raw_grows : (began len : ℕ) → ReaderGrows coin_stays (raw_script_at began len)
+unfolding raw_script_at
+raw_grows began len ys i = grows_then coin_stays ys (field bytes_wrong (bytes_at len) i) (field bytes_wrong (bytes_at len) (more ys i)) _ _ (taken_grows len ys i) (λ script j. elim (cases_Bool (is_some (short_form script))) [
   | inl t ↦ rw t (λ _. refl)
   | inr f ↦ rw f refl
 ])
 
 script_grows : ReaderGrows coin_stays script_at
 unfolding script_at
-script_grows ys i = grows_then coin_stays ys (tested_at (named ScriptTooLong) is_script_code i) (tested_at (named ScriptTooLong) is_script_code (more ys i)) _ _ (tested_grows ScriptTooLong is_script_code ys i) (λ code j. elim (cases_Bool (ltb code 4)) [
+script_grows ys i = grows_then coin_stays ys (checked_varint_at (varint_wrong ScriptTooLong) is_script_code i) (checked_varint_at (varint_wrong ScriptTooLong) is_script_code (more ys i)) _ _ (tested_grows ScriptTooLong is_script_code ys i) (λ code j. elim (cases_Bool (ltb code 4)) [
   | inl t ↦ rw t (kept_grows code ys j)
   | inr f ↦ rw f (elim (cases_Bool (ltb code 6)) [
     | inl t ↦ rw t (λ _. ap (λ (p : ℕ). Err (UncompressedKey, p)) (place-more ys i))
@@ -67,7 +68,7 @@ script_grows ys i = grows_then coin_stays ys (tested_at (named ScriptTooLong) is
 
 pub coin_grows : ReaderGrows coin_stays coin_at
 unfolding coin_at
-coin_grows ys i = grows_then coin_stays ys (tested_at (named HeightTooLarge) is_u32 i) (tested_at (named HeightTooLarge) is_u32 (more ys i)) _ _ (tested_grows HeightTooLarge is_u32 ys i) (λ code j.
+coin_grows ys i = grows_then coin_stays ys (checked_varint_at (varint_wrong HeightTooLarge) is_u32 i) (checked_varint_at (varint_wrong HeightTooLarge) is_u32 (more ys i)) _ _ (tested_grows HeightTooLarge is_u32 ys i) (λ code j.
     grows_then coin_stays ys (amount_at j) (amount_at (more ys j)) _ _ (amount_grows ys j) (λ value k.
     grows_then coin_stays ys (script_at k) (script_at (more ys k)) _ _ (script_grows ys k) (λ script l. refl)))
 
@@ -105,7 +106,7 @@ pub head_grows : ReaderGrows stays head_at
 unfolding head_at
 head_grows ys i = grows_then stays ys _ _ _ _ (mark_grows _ magic ys i) (λ _ a.
     grows_then stays ys _ _ _ _ (mark_grows _ version ys a) (λ _ b.
-    grows_then stays ys _ _ _ _ (mark_grows _ network ys b) (λ _ c.
+    grows_then stays ys _ _ _ _ (mark_grows _ message_start ys b) (λ _ c.
     grows_then stays ys _ _ _ _ (hash_grows ys c) (λ base d.
     grows_then stays ys (field as_stop (number_at w64) d) (field as_stop (number_at w64) (more ys d)) _ _ (field_grows stays as_stop (number_at w64) stop_steady (number_grows w64) ys d) (λ count e. refl)))))
 

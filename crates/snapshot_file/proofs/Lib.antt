@@ -1,5 +1,6 @@
 pub mod Answering
 pub mod Completing
+pub mod DumpExamples
 pub mod DumpLaws
 pub mod Ending
 pub mod Feeding

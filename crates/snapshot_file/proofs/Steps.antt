@@ -4,18 +4,19 @@ use Rattle.std.proofs.Common.{cond, eqb, sym, ap, subst, ◌∙◌, append_assoc
 use Rattle.std.proofs.lemmas.Bool.{cases_lt, cases_Bool, ne_eqb}
 use Rattle.std.proofs.lemmas.List.{length-append, length-drop, take-append-drop, take-append-le, take_at, append-nil}
 use Rattle.base_types.specs.Reading.{Input, place, compact_at, length_at}
-use Rattle.base_types.specs.Codec.{Reader, IsBytes, IsCodec, at, ok_is}
+use Rattle.base_types.specs.Codec.{Reader, IsBytes, at}
+use Rattle.base_types.proofs.Codecs.{IsCodec, ok_is}
 use Rattle.base_types.specs.declared.hash.Hash32.{Hash32}
 use Rattle.base_types.specs.declared.coin.Coin.{Coin}
 use Rattle.base_types.specs.declared.snapshot_error.SnapError.{SnapError}
 use Rattle.snapshot_file.specs.Items.{Wrong, Stop, from_first, group_at, member_at}
-use Rattle.snapshot_file.specs.Part.{Found, nothing, placed, read_member, read_coins}
+use Rattle.snapshot_file.specs.Part.{Found, nothing, snap_coin, read_member, read_coins}
 use Rattle.snapshot_file.specs.ItemReading.{Fails, IsEnd}
-use Rattle.snapshot_file.specs.Steps.{read_from, after, len_of, item_len, next_len, Goes, Breaks, TookItem, ItemStep}
+use Rattle.snapshot_file.specs.Steps.{read_from, after, len_of, item_len, next_len, Goes, Breaks, TakesItem, ItemStep, point, outcome}
 use Rattle.snapshot_file.specs.declared.coins.SnapCoin.{SnapCoin}
 use Rattle.snapshot_file.specs.declared.item_fault.ItemFault.{ItemFault}
 use Rattle.snapshot_file.specs.declared.item_fault.ItemFault.TheVariants.{Unfinished, NoMemory, Bad}
-use Rattle.snapshot_file.specs.declared.standing.Standing.{Standing}
+use Rattle.snapshot_file.specs.declared.progress.Progress.{Progress}
 use Rattle.snapshot_file.proofs.Growing.{more, Grows, ReaderGrows}
 use Rattle.snapshot_file.proofs.ItemsGrow.{stays, group_grows, member_grows}
 use Rattle.snapshot_file.proofs.ItemLaws.{front, group_codec, member_codec}
@@ -51,7 +52,7 @@ group_goes height left txid offset bytes other (suc members) len e within some y
     rw (g.0, g.1, less) refl
 
 pub member_goes : (height : Option ℕ) (left members : ℕ) (txid : Hash32) (offset : ℕ) (bytes : List ℕ) (member : ℕ × Coin) (len : ℕ) → member_at height (from_first bytes) ≡ Ok (member, at (length bytes) (drop len bytes)) → len ≤ length bytes
-    → (ys : List ℕ) → read_coins height (suc left) (suc members) txid offset (bytes ++ ys) ≡ after (placed txid offset member ∷ []) (read_coins height left members txid (offset + len) (drop len bytes ++ ys))
+    → (ys : List ℕ) → read_coins height (suc left) (suc members) txid offset (bytes ++ ys) ≡ after (snap_coin txid offset member ∷ []) (read_coins height left members txid (offset + len) (drop len bytes ++ ys))
 unfolding read_coins read_member
 member_goes height left members txid offset bytes member len e within ys =
     let g = grown_ok (member_at height) (member_grows height) bytes ys member len e within in
@@ -119,10 +120,10 @@ item_long height (suc left) (suc members) xs ys len fits whole short = front_lon
 
 -- ---- from item to item
 
-pub goes_same : (s : Standing) (offset : ℕ) (bytes : List ℕ) (coins : List SnapCoin) → Goes s s offset bytes offset bytes coins coins
+pub goes_same : (s : Progress) (offset : ℕ) (bytes : List ℕ) (coins : List SnapCoin) → Goes (point s offset bytes coins) (point s offset bytes coins)
 goes_same s offset bytes coins = record { found = []; coins = sym (append-nil coins); goes_on = λ ys. refl; counted = omega arith; height = refl }
 
-pub goes_then : (a b c : Standing) (at_a at_b at_c : ℕ) (bytes mid rest : List ℕ) (had more_coins has : List SnapCoin) → Goes a b at_a bytes at_b mid had more_coins → Goes b c at_b mid at_c rest more_coins has → Goes a c at_a bytes at_c rest had has
+pub goes_then : (a b c : Progress) (at_a at_b at_c : ℕ) (bytes mid rest : List ℕ) (had more_coins has : List SnapCoin) → Goes (point a at_a bytes had) (point b at_b mid more_coins) → Goes (point b at_b mid more_coins) (point c at_c rest has) → Goes (point a at_a bytes had) (point c at_c rest has)
 goes_then a b c at_a at_b at_c bytes mid rest had more_coins has p q = record {
   found = p.found ++ q.found;
   coins = q.coins ∙ ap (λ (l : List SnapCoin). l ++ q.found) p.coins ∙ append_assoc had p.found q.found;
@@ -134,7 +135,7 @@ goes_then a b c at_a at_b at_c bytes mid rest had more_coins has p q = record {
   joined : (xs ys : List SnapCoin) (f : Found) → after xs (after ys f) ≡ after (xs ++ ys) f
   joined xs ys f i = record { coins = sym (append_assoc xs ys f.coins) i; fault = f.fault }
 
-pub goes_breaks : (a b : Standing) (at_a at_b : ℕ) (bytes mid : List ℕ) (wrong : Wrong) (had more_coins has : List SnapCoin) → Goes a b at_a bytes at_b mid had more_coins → Breaks b at_b mid wrong more_coins has → Breaks a at_a bytes wrong had has
+pub goes_breaks : (a b : Progress) (at_a at_b : ℕ) (bytes mid : List ℕ) (wrong : Wrong) (had more_coins has : List SnapCoin) → Goes (point a at_a bytes had) (point b at_b mid more_coins) → Breaks (point b at_b mid more_coins) wrong has → Breaks (point a at_a bytes had) wrong has
 goes_breaks a b at_a at_b bytes mid wrong had more_coins has p q = record {
   found = p.found ++ q.found;
   coins = q.coins ∙ ap (λ (l : List SnapCoin). l ++ q.found) p.coins ∙ append_assoc had p.found q.found;
@@ -143,16 +144,16 @@ goes_breaks a b at_a at_b bytes mid wrong had more_coins has p q = record {
 
 -- ---- what the code does with one item
 
-at_state : (s : Standing) (left members offset : ℕ) (bytes : List ℕ) → s.left ≡ left → s.members ≡ members → read_from s offset bytes ≡ read_coins s.height left members s.txid offset bytes
+at_state : (s : Progress) (left members offset : ℕ) (bytes : List ℕ) → s.left ≡ left → s.members ≡ members → read_from s offset bytes ≡ read_coins s.height left members s.txid offset bytes
 at_state s left members offset bytes l m =
     ap (λ (n : ℕ). read_coins s.height n s.members s.txid offset bytes) l ∙ ap (λ (n : ℕ). read_coins s.height left n s.txid offset bytes) m
 
-len_at_state : (s : Standing) (left members : ℕ) (bytes : List ℕ) → s.left ≡ left → s.members ≡ members → next_len s bytes ≡ item_len s.height left members bytes
+len_at_state : (s : Progress) (left members : ℕ) (bytes : List ℕ) → s.left ≡ left → s.members ≡ members → next_len s bytes ≡ item_len s.height left members bytes
 len_at_state s left members bytes l m = ap (λ (n : ℕ). item_len s.height n s.members bytes) l ∙ ap (λ (n : ℕ). item_len s.height left n bytes) m
 
-pub took_group : (old new : Standing) (offset : ℕ) (bytes : List ℕ) (group : Hash32 × ℕ) (len : ℕ) (had has : List SnapCoin) → IsBytes bytes → (old.left ≡ 0 → ⊥) → old.members ≡ 0
+pub took_group : (old new : Progress) (offset : ℕ) (bytes : List ℕ) (group : Hash32 × ℕ) (len : ℕ) (had has : List SnapCoin) → IsBytes bytes → (old.left ≡ 0 → ⊥) → old.members ≡ 0
     → group_at old.left (from_first bytes) ≡ Ok (group, at (length bytes) (drop len bytes)) → len ≤ length bytes
-    → new ≡ record { height = old.height; left = old.left; members = group.1; txid = group.0 } → has ≡ had → TookItem old new offset bytes len had has
+    → new ≡ record { height = old.height; left = old.left; members = group.1; txid = group.0 } → has ≡ had → TakesItem (point old offset bytes had) len (outcome new has)
 unfolding item_len
 took_group old new offset bytes group len had has fits some none read within is same =
     let left = old.left - 1 in
@@ -161,8 +162,8 @@ took_group old new offset bytes group len had has fits some none read within is 
     let f = front (group_codec (suc left)) bytes group (at (length bytes) (drop len bytes)) fits e in
     let positive : 0 < group.1 = f.fits.some in
     let size : place (at (length bytes) (drop len bytes)) ≡ len = omega (arith, length-drop len bytes) in
-    let new_left : new.left ≡ old.left = ap (λ (s : Standing). s.left) is in
-    let new_members : new.members ≡ group.1 = ap (λ (s : Standing). s.members) is in
+    let new_left : new.left ≡ old.left = ap (λ (s : Progress). s.left) is in
+    let new_members : new.members ≡ group.1 = ap (λ (s : Progress). s.members) is in
     record {
       goes = record {
         found = [];
@@ -170,9 +171,9 @@ took_group old new offset bytes group len had has fits some none read within is 
         goes_on = λ ys.
             at_state old (suc left) 0 offset (bytes ++ ys) z none ∙ group_goes old.height left old.txid offset bytes group.0 group.1 len e within positive ys
             ∙ ap (λ (n : ℕ). read_coins old.height n group.1 group.0 (offset + len) (drop len bytes ++ ys)) (sym z)
-            ∙ ap (λ (s : Standing). read_from s (offset + len) (drop len bytes ++ ys)) (sym is);
+            ∙ ap (λ (s : Progress). read_from s (offset + len) (drop len bytes ++ ys)) (sym is);
         counted = omega arith;
-        height = ap (λ (s : Standing). s.height) is;
+        height = ap (λ (s : Progress). s.height) is;
       };
       within = within;
       fits = fits;
@@ -180,27 +181,27 @@ took_group old new offset bytes group len had has fits some none read within is 
       less = rw (new_left, new_members, none, ne_eqb group.1 0 (λ y. omega arith)) (omega arith);
     }
 
-pub took_member : (old new : Standing) (offset : ℕ) (bytes : List ℕ) (member : ℕ × Coin) (len : ℕ) (had has : List SnapCoin) → IsBytes bytes → (old.left ≡ 0 → ⊥) → (old.members ≡ 0 → ⊥)
+pub took_member : (old new : Progress) (offset : ℕ) (bytes : List ℕ) (member : ℕ × Coin) (len : ℕ) (had has : List SnapCoin) → IsBytes bytes → (old.left ≡ 0 → ⊥) → (old.members ≡ 0 → ⊥)
     → member_at old.height (from_first bytes) ≡ Ok (member, at (length bytes) (drop len bytes)) → len ≤ length bytes
-    → new ≡ record { height = old.height; left = old.left - 1; members = old.members - 1; txid = old.txid } → has ≡ had ++ placed old.txid offset member ∷ [] → TookItem old new offset bytes len had has
+    → new ≡ record { height = old.height; left = old.left - 1; members = old.members - 1; txid = old.txid } → has ≡ had ++ snap_coin old.txid offset member ∷ [] → TakesItem (point old offset bytes had) len (outcome new has)
 unfolding item_len
-took_member old new offset bytes member len had has fits some begun read within is added =
+took_member old new offset bytes member len had has fits some first_progress read within is added =
     let left = old.left - 1 in
     let members = old.members - 1 in
     let z : old.left ≡ suc left = omega arith in
     let m : old.members ≡ suc members = omega arith in
     let size : place (at (length bytes) (drop len bytes)) ≡ len = omega (arith, length-drop len bytes) in
-    let new_left : new.left ≡ left = ap (λ (s : Standing). s.left) is in
-    let new_members : new.members ≡ members = ap (λ (s : Standing). s.members) is in
+    let new_left : new.left ≡ left = ap (λ (s : Progress). s.left) is in
+    let new_members : new.members ≡ members = ap (λ (s : Progress). s.members) is in
     record {
       goes = record {
-        found = placed old.txid offset member ∷ [];
+        found = snap_coin old.txid offset member ∷ [];
         coins = added;
         goes_on = λ ys.
             at_state old (suc left) (suc members) offset (bytes ++ ys) z m ∙ member_goes old.height left members old.txid offset bytes member len read within ys
-            ∙ ap (λ (s : Standing). after (placed old.txid offset member ∷ []) (read_from s (offset + len) (drop len bytes ++ ys))) (sym is);
+            ∙ ap (λ (s : Progress). after (snap_coin old.txid offset member ∷ []) (read_from s (offset + len) (drop len bytes ++ ys))) (sym is);
         counted = omega arith;
-        height = ap (λ (s : Standing). s.height) is;
+        height = ap (λ (s : Progress). s.height) is;
       };
       within = within;
       fits = fits;
@@ -216,7 +217,7 @@ took_member old new offset bytes member len had has fits some begun read within 
 broken_within : {X : Type 0} (bytes : List ℕ) (error : SnapError) (offset : ℕ) (r : Result (X × Input) Stop) → Within stop_offset (length bytes) r → r ≡ Err (Some (error, offset)) → offset ≤ length bytes
 broken_within {X} bytes error offset r within e = subst (λ (q : Result (X × Input) Stop). Within stop_offset (length bytes) q) e within
 
-pub group_stops : (fault : ItemFault) (old : Standing) (offset : ℕ) (bytes : List ℕ) (coins : List SnapCoin) → (old.left ≡ 0 → ⊥) → old.members ≡ 0 → Fails fault (group_at old.left (from_first bytes)) → ItemStep (Err fault) old old offset bytes coins coins
+pub group_stops : (fault : ItemFault) (old : Progress) (offset : ℕ) (bytes : List ℕ) (coins : List SnapCoin) → (old.left ≡ 0 → ⊥) → old.members ≡ 0 → Fails fault (group_at old.left (from_first bytes)) → ItemStep (Err fault) (point old offset bytes coins) (outcome old coins)
 unfolding item_len
 group_stops Unfinished old offset bytes coins some none e =
     let z : old.left ≡ suc (old.left - 1) = omega arith in
@@ -235,14 +236,14 @@ group_stops (Bad error p) old offset bytes coins some none e =
       within = broken_within bytes error p (group_at (suc (old.left - 1)) (from_first bytes)) (group_within (suc (old.left - 1)) (from_first bytes)) e;
     }
 
-pub member_stops : (fault : ItemFault) (old : Standing) (offset : ℕ) (bytes : List ℕ) (coins : List SnapCoin) → (old.left ≡ 0 → ⊥) → (old.members ≡ 0 → ⊥) → Fails fault (member_at old.height (from_first bytes)) → ItemStep (Err fault) old old offset bytes coins coins
+pub member_stops : (fault : ItemFault) (old : Progress) (offset : ℕ) (bytes : List ℕ) (coins : List SnapCoin) → (old.left ≡ 0 → ⊥) → (old.members ≡ 0 → ⊥) → Fails fault (member_at old.height (from_first bytes)) → ItemStep (Err fault) (point old offset bytes coins) (outcome old coins)
 unfolding item_len
-member_stops Unfinished old offset bytes coins some begun e =
+member_stops Unfinished old offset bytes coins some within e =
     let z : old.left ≡ suc (old.left - 1) = omega arith in
     let m : old.members ≡ suc (old.members - 1) = omega arith in
     record { waits = record { short = len_at_state old (suc (old.left - 1)) (suc (old.members - 1)) bytes z m ∙ ap len_of e }; same = refl; coins = refl }
-member_stops NoMemory old offset bytes coins some begun e = tt
-member_stops (Bad error p) old offset bytes coins some begun e =
+member_stops NoMemory old offset bytes coins some within e = tt
+member_stops (Bad error p) old offset bytes coins some within e =
     let z : old.left ≡ suc (old.left - 1) = omega arith in
     let m : old.members ≡ suc (old.members - 1) = omega arith in
     record {
@@ -254,7 +255,7 @@ member_stops (Bad error p) old offset bytes coins some begun e =
       within = broken_within bytes error p (member_at old.height (from_first bytes)) (member_within old.height (from_first bytes)) e;
     }
 
-pub end_stops : (fault : ItemFault) (old : Standing) (offset : ℕ) (bytes : List ℕ) (coins : List SnapCoin) → old.left ≡ 0 → IsEnd fault bytes → ItemStep (Err fault) old old offset bytes coins coins
+pub end_stops : (fault : ItemFault) (old : Progress) (offset : ℕ) (bytes : List ℕ) (coins : List SnapCoin) → old.left ≡ 0 → IsEnd fault bytes → ItemStep (Err fault) (point old offset bytes coins) (outcome old coins)
 unfolding item_len read_coins
 end_stops Unfinished old offset [] coins none e =
     record { waits = record { short = len_at_state old 0 old.members [] none refl }; same = refl; coins = refl }

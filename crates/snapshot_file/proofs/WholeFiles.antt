@@ -5,13 +5,14 @@ use Rattle.std.specs.List.{flat_map, AllByRecursion}
 use Rattle.std.proofs.lemmas.List.{length-append, length-map}
 use Rattle.std.proofs.lemmas.List.Concat.{flat_map-cons}
 use Rattle.base_types.specs.Reading.{Input, place}
-use Rattle.base_types.specs.Codec.{Reader, IsBytes, IsCodec, at}
+use Rattle.base_types.specs.Codec.{Reader, IsBytes, at}
+use Rattle.base_types.proofs.Codecs.{IsCodec}
 use Rattle.base_types.specs.declared.hash.Hash32.{Hash32}
 use Rattle.base_types.specs.declared.hash.OutPoint.{OutPoint}
 use Rattle.base_types.specs.declared.coin.Coin.{Coin}
 use Rattle.snapshot_file.specs.Text.{head_text, group_head_text, member_text, Group, group_text, entry_of, coins_of, MemberFits, GroupFits, IsSnapshot}
 use Rattle.snapshot_file.specs.Items.{Stop, from_first, head_at, group_at, is_above}
-use Rattle.snapshot_file.specs.Part.{Found, met, also, placed, read_member, read_coins, Part, no_group, read_part}
+use Rattle.snapshot_file.specs.Part.{Found, with_rest, also, snap_coin, read_member, read_coins, Part, no_group, read_part}
 use Rattle.snapshot_file.specs.Fed.{entry, IsAll, NoneAbove, IsWholeFile}
 use Rattle.snapshot_file.specs.declared.coins.SnapCoin.{SnapCoin}
 use Rattle.snapshot_file.specs.declared.head.SnapHead.{SnapHead}
@@ -33,11 +34,11 @@ record All (found : Found) (coins : List (OutPoint × Coin)) : Type 0 where
 -- ---- a text is read
 
 met_ok : {X : Type 0} {read : Reader Stop X} {text : X → List ℕ} {Fits : X → Type 0} → IsCodec read text Fits → (offset : ℕ) (next : X → ℕ → List ℕ → Found) (x : X) (rest : List ℕ) → Fits x
-    → met offset next (read (from_first (text x ++ rest))) ≡ next x (offset + length (text x)) rest
+    → with_rest offset next (read (from_first (text x ++ rest))) ≡ next x (offset + length (text x)) rest
 met_ok {X} {text = text} law offset next x rest fits =
     let again = law.again x (length (text x ++ rest)) rest fits in
     let size : place (at (length (text x ++ rest)) rest) ≡ length (text x) = omega (arith, length-append (text x) rest) in
-    ap (λ (r : Result (X × Input) Stop). met offset next r) again ∙ ap (λ (n : ℕ). next x (offset + n) rest) size
+    ap (λ (r : Result (X × Input) Stop). with_rest offset next r) again ∙ ap (λ (n : ℕ). next x (offset + n) rest) size
 
 also_all : (coin : SnapCoin) (found : Found) (coins : List (OutPoint × Coin)) → All found coins → All (also coin found) (entry coin ∷ coins)
 also_all coin found coins a = record { entries = ap (λ (l : List (OutPoint × Coin)). entry coin ∷ l) a.entries; no_fault = a.no_fault }
@@ -54,8 +55,8 @@ module _ (height : Option ℕ) where
       → ((p : ℕ) → All (others p rest) coins) → All (read_member height txid others offset (member_text member ++ rest)) (entry_of txid member ∷ coins)
   unfolding read_member
   member_read txid others member rest coins offset fits below each =
-      let is = met_ok (member_codec height) offset (λ m next r. also (placed txid offset m) (others next r)) member rest (fits, below) in
-      subst (λ (f : Found). All f (entry_of txid member ∷ coins)) (sym is) (also_all (placed txid offset member) (others (offset + length (member_text member)) rest) coins (each (offset + length (member_text member))))
+      let is = met_ok (member_codec height) offset (λ m next r. also (snap_coin txid offset m) (others next r)) member rest (fits, below) in
+      subst (λ (f : Found). All f (entry_of txid member ∷ coins)) (sym is) (also_all (snap_coin txid offset member) (others (offset + length (member_text member)) rest) coins (each (offset + length (member_text member))))
 
   pub coins_cons : (group : Group) (groups : List Group) → coins_of (group ∷ groups) ≡ map (entry_of group.txid) group.members ++ coins_of groups
   unfolding coins_of
@@ -75,11 +76,11 @@ module _ (height : Option ℕ) where
       ∙ append_assoc (group_head_text other count) (member_text m ++ flat_map member_text ms) (flat_map group_text gs)
       ∙ ap (λ (l : List ℕ). group_head_text other count ++ l) (append_assoc (member_text m) (flat_map member_text ms) (flat_map group_text gs)) in
       let group_fits : GroupHeadFits (suc left) (other, count) = record { txid = fits.txid; some = omega arith; most = omega arith; count = omega arith } in
-      let is : met offset next (group_at (suc left) (from_first (group_head_text other count ++ rest))) ≡ next (other, count) (offset + length (group_head_text other count)) rest = met_ok (group_codec (suc left)) offset next (other, count) rest group_fits in
+      let is : with_rest offset next (group_at (suc left) (from_first (group_head_text other count ++ rest))) ≡ next (other, count) (offset + length (group_head_text other count)) rest = met_ok (group_codec (suc left)) offset next (other, count) rest group_fits in
       let less : count - 1 ≡ length ms = omega arith in
       let read = member_read other (read_coins height left (length ms) other) m (left_text ms gs) (left_coins other ms gs) (offset + length (group_head_text other count)) fits.members.0 below each in
       let read : All (next (other, count) (offset + length (group_head_text other count)) rest) (entry_of other m ∷ left_coins other ms gs) = rw less read in
-      let read : All (met offset next (group_at (suc left) (from_first (flat_map group_text (group ∷ gs))))) (entry_of other m ∷ left_coins other ms gs) = rw (parts, is) read in
+      let read : All (with_rest offset next (group_at (suc left) (from_first (flat_map group_text (group ∷ gs))))) (entry_of other m ∷ left_coins other ms gs) = rw (parts, is) read in
       rw (coins_cons group gs) read
 
   text_read : (left : ℕ) (txid : Hash32) (members : List (ℕ × Coin)) (groups : List Group) (offset : ℕ) → left ≡ length (left_coins txid members groups) → left < 2 ^ 64 → AllByRecursion MemberFits members → AllByRecursion GroupFits groups → Below (left_coins txid members groups)
@@ -132,10 +133,10 @@ record Met {X : Type 0} (text : X → List ℕ) (Fits : X → Type 0) (offset : 
   fits : Fits value
   is : found ≡ next value place_is rest
 
-met_found : {X : Type 0} {read : Reader Stop X} {text : X → List ℕ} {Fits : X → Type 0} → IsCodec read text Fits → (offset : ℕ) (next : X → ℕ → List ℕ → Found) (bytes : List ℕ) (n : ℕ) → IsBytes bytes → length (met offset next (read (from_first bytes))).coins ≡ suc n
-    → Met text Fits offset next bytes (met offset next (read (from_first bytes)))
+met_found : {X : Type 0} {read : Reader Stop X} {text : X → List ℕ} {Fits : X → Type 0} → IsCodec read text Fits → (offset : ℕ) (next : X → ℕ → List ℕ → Found) (bytes : List ℕ) (n : ℕ) → IsBytes bytes → length (with_rest offset next (read (from_first bytes))).coins ≡ suc n
+    → Met text Fits offset next bytes (with_rest offset next (read (from_first bytes)))
 met_found {X} {read} {text} {Fits} law offset next bytes n fits some = go (read (from_first bytes)) refl where
-  go : (r : Result (X × Input) Stop) → read (from_first bytes) ≡ r → Met text Fits offset next bytes (met offset next (read (from_first bytes)))
+  go : (r : Result (X × Input) Stop) → read (from_first bytes) ≡ r → Met text Fits offset next bytes (with_rest offset next (read (from_first bytes)))
   go (Ok p) e =
       let f = front law bytes p.0 p.1 fits e in
       record {
@@ -145,10 +146,10 @@ met_found {X} {read} {text} {Fits} law offset next bytes n fits some = go (read 
         parts = f.parts;
         rest_fits = f.rest_fits;
         fits = f.fits;
-        is = ap (λ (q : Result (X × Input) Stop). met offset next q) e;
+        is = ap (λ (q : Result (X × Input) Stop). with_rest offset next q) e;
       }
   go (Err stop) e =
-      let none : length (met offset next (read (from_first bytes))).coins ≡ 0 = ap (λ (q : Result (X × Input) Stop). length (met offset next q).coins) e in
+      let none : length (with_rest offset next (read (from_first bytes))).coins ≡ 0 = ap (λ (q : Result (X × Input) Stop). length (with_rest offset next q).coins) e in
       absurd (omega arith)
 
 found_member : (height : Option ℕ) (left members : ℕ) (txid : Hash32) (others : ℕ → List ℕ → Found) (offset : ℕ) (bytes : List ℕ) → IsBytes bytes
@@ -156,7 +157,7 @@ found_member : (height : Option ℕ) (left members : ℕ) (txid : Hash32) (other
     → (read_member height txid others offset bytes).fault ≡ None → length (read_member height txid others offset bytes).coins ≡ suc left → LeftAs height (suc members) txid bytes (read_member height txid others offset bytes).coins
 unfolding read_member
 found_member height left members txid others offset bytes fits each fault len =
-    let m = met_found (member_codec height) offset (λ member next rest. also (placed txid offset member) (others next rest)) bytes left fits len in
+    let m = met_found (member_codec height) offset (λ member next rest. also (snap_coin txid offset member) (others next rest)) bytes left fits len in
     let found = others m.place_is m.rest in
     let coins = ap (λ (f : Found). f.coins) m.is in
     let r = each m.place_is m.rest m.rest_fits (ap (λ (f : Found). f.fault) (sym m.is) ∙ fault) (omega (arith, len, ap length coins)) in

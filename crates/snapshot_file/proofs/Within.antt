@@ -9,7 +9,7 @@ use Rattle.base_types.specs.declared.cursor.ReadError.TheVariants as read
 use Rattle.base_types.specs.declared.refused.CoinError.{CoinError}
 use Rattle.base_types.specs.declared.refused.CoinError.TheVariants.{Short, HeightTooLarge, BadAmount, UncompressedKey, ScriptTooLong, SecondSpelling}
 use Rattle.coin_codec.specs.ScriptForm.{kept_len, short_form}
-use Rattle.coin_codec.specs.Reading.{named, too_few, tested_at, is_u32, is_amount_code, is_script_code, amount_at, kept_at, raw_at, script_at, coin_at}
+use Rattle.coin_codec.specs.Reading.{varint_wrong, bytes_wrong, checked_varint_at, is_u32, is_amount_code, is_script_code, amount_at, kept_script_at, raw_script_at, script_at, coin_at}
 use Rattle.snapshot_file.specs.Items.{Stop, as_stop, coin_stop, group_at, is_above, member_at}
 
 abbrev pub Within : {E X : Type 0} → (E → ℕ) → ℕ → Result (X × Input) E → Type 0
@@ -38,39 +38,39 @@ moved offset a b (Err d) is e = omega arith
 abbrev coin_offset : CoinError × ℕ → ℕ
 coin_offset wrong = wrong.1
 
-named_within : (error : CoinError) (i : Input) (e : ReadError) → coin_offset (named error i e) ≤ i.end
+named_within : (error : CoinError) (i : Input) (e : ReadError) → coin_offset (varint_wrong error i e) ≤ i.end
 named_within error i read.Short = omega arith
 named_within error i read.LongSpelling = omega arith
 named_within error i read.TooLarge = omega arith
 
-tested_within : (error : CoinError) (passes : ℕ → Bool) → ReaderWithin coin_offset (tested_at (named error) passes)
-unfolding tested_at
-tested_within error passes i = within_then coin_offset i.end (field (named error) varint_at i) _ (field_within coin_offset (named error) varint_at (named_within error) i) (λ n j is. elim (cases_Bool (passes n)) [
+tested_within : (error : CoinError) (passes : ℕ → Bool) → ReaderWithin coin_offset (checked_varint_at (varint_wrong error) passes)
+unfolding checked_varint_at
+tested_within error passes i = within_then coin_offset i.end (field (varint_wrong error) varint_at i) _ (field_within coin_offset (varint_wrong error) varint_at (named_within error) i) (λ n j is. elim (cases_Bool (passes n)) [
   | inl t ↦ rw t is
   | inr f ↦ rw f (omega arith)
 ])
 
 amount_within : ReaderWithin coin_offset amount_at
 unfolding amount_at
-amount_within i = within_then coin_offset i.end (tested_at (named BadAmount) is_amount_code i) _ (tested_within BadAmount is_amount_code i) (λ n j is. is)
+amount_within i = within_then coin_offset i.end (checked_varint_at (varint_wrong BadAmount) is_amount_code i) _ (tested_within BadAmount is_amount_code i) (λ n j is. is)
 
-taken_within : (n : ℕ) → ReaderWithin coin_offset (field too_few (bytes_at n))
-taken_within n = field_within coin_offset too_few (bytes_at n) (λ i e. omega arith)
+taken_within : (n : ℕ) → ReaderWithin coin_offset (field bytes_wrong (bytes_at n))
+taken_within n = field_within coin_offset bytes_wrong (bytes_at n) (λ i e. omega arith)
 
-kept_within : (mark : ℕ) → ReaderWithin coin_offset (kept_at mark)
-unfolding kept_at
-kept_within mark i = within_then coin_offset i.end (field too_few (bytes_at (kept_len mark)) i) _ (taken_within (kept_len mark) i) (λ kept j is. is)
+kept_within : (mark : ℕ) → ReaderWithin coin_offset (kept_script_at mark)
+unfolding kept_script_at
+kept_within mark i = within_then coin_offset i.end (field bytes_wrong (bytes_at (kept_len mark)) i) _ (taken_within (kept_len mark) i) (λ kept j is. is)
 
-raw_within : (began len end : ℕ) (i : Input) → began ≤ end → i.end ≡ end → Within coin_offset end (raw_at began len i)
-unfolding raw_at
-raw_within began len end i le is = within_then coin_offset end (field too_few (bytes_at len) i) _ (moved coin_offset i.end end _ (taken_within len i) is) (λ script j is. elim (cases_Bool (is_some (short_form script))) [
+raw_within : (began len end : ℕ) (i : Input) → began ≤ end → i.end ≡ end → Within coin_offset end (raw_script_at began len i)
+unfolding raw_script_at
+raw_within began len end i le is = within_then coin_offset end (field bytes_wrong (bytes_at len) i) _ (moved coin_offset i.end end _ (taken_within len i) is) (λ script j is. elim (cases_Bool (is_some (short_form script))) [
   | inl t ↦ rw t le
   | inr f ↦ rw f is
 ])
 
 script_within : ReaderWithin coin_offset script_at
 unfolding script_at
-script_within i = within_then coin_offset i.end (tested_at (named ScriptTooLong) is_script_code i) _ (tested_within ScriptTooLong is_script_code i) (λ code j is. elim (cases_Bool (ltb code 4)) [
+script_within i = within_then coin_offset i.end (checked_varint_at (varint_wrong ScriptTooLong) is_script_code i) _ (tested_within ScriptTooLong is_script_code i) (λ code j is. elim (cases_Bool (ltb code 4)) [
   | inl t ↦ rw t (moved coin_offset j.end i.end _ (kept_within code j) is)
   | inr f ↦ rw f (elim (cases_Bool (ltb code 6)) [
     | inl t ↦ rw t (omega arith)
@@ -80,7 +80,7 @@ script_within i = within_then coin_offset i.end (tested_at (named ScriptTooLong)
 
 coin_within : ReaderWithin coin_offset coin_at
 unfolding coin_at
-coin_within i = within_then coin_offset i.end (tested_at (named HeightTooLarge) is_u32 i) _ (tested_within HeightTooLarge is_u32 i) (λ code j is.
+coin_within i = within_then coin_offset i.end (checked_varint_at (varint_wrong HeightTooLarge) is_u32 i) _ (tested_within HeightTooLarge is_u32 i) (λ code j is.
     within_then coin_offset i.end (amount_at j) _ (moved coin_offset j.end i.end _ (amount_within j) is) (λ value k is.
     within_then coin_offset i.end (script_at k) _ (moved coin_offset k.end i.end _ (script_within k) is) (λ script l is. is)))
 

@@ -12,7 +12,8 @@ use Rattle.base_types.specs.declared.refused.CoinError.TheVariants as coin
 use Rattle.base_types.specs.declared.snapshot_error.SnapError.{SnapError}
 use Rattle.base_types.specs.declared.snapshot_error.SnapError.TheVariants.{BadMagic, BadVersion, WrongNetwork, LongSpelling, EmptyGroup, CountMismatch, BadIndex, BadCoin, HeightAbove}
 use Rattle.coin_codec.specs.Reading.{coin_at}
-use Rattle.snapshot_file.specs.Text.{magic, version, network}
+use Rattle.base_types.specs.Parameters.{message_start}
+use Rattle.snapshot_file.specs.Text.{magic, version}
 use Rattle.snapshot_file.specs.declared.head.SnapHead.{SnapHead}
 
 -- what is wrong, and where
@@ -56,7 +57,7 @@ unfoldable pub head_at : Reader Stop SnapHead
 head_at i = do
   magic ← mark_at (BadMagic, 0) magic i
   version ← mark_at (BadVersion, 5) version magic.1
-  network ← mark_at (WrongNetwork, 7) network version.1
+  network ← mark_at (WrongNetwork, 7) message_start version.1
   base ← field as_stop (bytes_at 32) network.1
   count ← field as_stop (number_at w64) base.1
   Ok (record { base = record { bytes = base.0 }; count = count.0 }, count.1)

@@ -17,35 +17,35 @@ abbrev pub nothing : Found
 nothing = record { coins = []; fault = None }
 
 -- a fault's offset, from that of the item's first byte
-abbrev pub shifted : ℕ → Wrong → Wrong
-shifted at wrong = (wrong.0, at + wrong.1)
+abbrev pub at_offset : ℕ → Wrong → Wrong
+at_offset at wrong = (wrong.0, at + wrong.1)
 
 -- what follows an item that begins at an offset, if it was read
-abbrev pub met : {X : Type 0} → ℕ → (X → ℕ → List ℕ → Found) → Result (X × Input) Stop → Found
-met at next (Ok (x, j)) = next x (at + place j) j.rest
-met at next (Err stop) = record { coins = []; fault = option_map (shifted at) stop }
+abbrev pub with_rest : {X : Type 0} → ℕ → (X → ℕ → List ℕ → Found) → Result (X × Input) Stop → Found
+with_rest at next (Ok (x, j)) = next x (at + place j) j.rest
+with_rest at next (Err stop) = record { coins = []; fault = option_map (at_offset at) stop }
 
 abbrev pub also : SnapCoin → Found → Found
 also coin found = record { coins = coin ∷ found.coins; fault = found.fault }
 
-abbrev pub placed : Hash32 → ℕ → ℕ × Coin → SnapCoin
-placed txid at member = record { key = record { txid = txid; index = member.0 }; coin = member.1; at = at }
+abbrev pub snap_coin : Hash32 → ℕ → ℕ × Coin → SnapCoin
+snap_coin txid at member = record { key = record { txid = txid; index = member.0 }; coin = member.1; at = at }
 
 -- a coin of this transaction, and what follows it
 unfoldable pub read_member : Option ℕ → Hash32 → (ℕ → List ℕ → Found) → ℕ → List ℕ → Found
-read_member height txid others at bytes = met at (λ member next rest. also (placed txid at member) (others next rest)) (member_at height (from_first bytes))
+read_member height txid others at bytes = with_rest at (λ member next rest. also (snap_coin txid at member) (others next rest)) (member_at height (from_first bytes))
 
 -- nothing follows the last coin
-abbrev pub ended : ℕ → List ℕ → Found
-ended at [] = nothing
-ended at (byte ∷ rest) = record { coins = []; fault = Some (LeftOver, at) }
+abbrev pub at_end : ℕ → List ℕ → Found
+at_end at [] = nothing
+at_end at (byte ∷ rest) = record { coins = []; fault = Some (LeftOver, at) }
 
 -- The bytes from an offset on, where so many coins are left in the file, of which so many are of the transaction whose
 -- group was begun.
 unfoldable pub read_coins : Option ℕ → ℕ → ℕ → Hash32 → ℕ → List ℕ → Found
-read_coins height zero members txid at bytes = ended at bytes
+read_coins height zero members txid at bytes = at_end at bytes
 read_coins height (suc left) zero txid at bytes =
-    met at (λ group next rest. read_member height group.0 (read_coins height left (group.1 - 1) group.0) next rest) (group_at (suc left) (from_first bytes))
+    with_rest at (λ group next rest. read_member height group.0 (read_coins height left (group.1 - 1) group.0) next rest) (group_at (suc left) (from_first bytes))
 read_coins height (suc left) (suc members) txid at bytes = read_member height txid (read_coins height left members txid) at bytes
 
 -- The metadata, if it is whole in these bytes, the coins that are whole, and the fault, if the bytes break the form

@@ -12,10 +12,10 @@ use Rattle.snapshot_file.specs.declared.fault.SnapFault.TheVariants as snap
 use Rattle.snapshot_file.specs.declared.head.SnapHead.{SnapHead}
 use Rattle.snapshot_file.specs.declared.item_fault.ItemFault.{ItemFault}
 use Rattle.snapshot_file.specs.declared.item_fault.ItemFault.TheVariants.{Unfinished, NoMemory, Bad}
-use Rattle.snapshot_file.specs.declared.standing.Standing.{Standing}
+use Rattle.snapshot_file.specs.declared.progress.Progress.{Progress}
 
 -- what the bytes from an offset on say to a reader that stands there
-abbrev pub read_from : Standing → ℕ → List ℕ → Found
+abbrev pub read_from : Progress → ℕ → List ℕ → Found
 read_from s at bytes = read_coins s.height s.left s.members s.txid at bytes
 
 -- coins that were found before
@@ -33,85 +33,118 @@ item_len height zero members (byte ∷ rest) = Err (Some (LeftOver, 0))
 item_len height (suc left) zero bytes = len_of (group_at (suc left) (from_first bytes))
 item_len height (suc left) (suc members) bytes = len_of (member_at height (from_first bytes))
 
-abbrev pub next_len : Standing → List ℕ → Result ℕ Stop
+abbrev pub next_len : Progress → List ℕ → Result ℕ Stop
 next_len s bytes = item_len s.height s.left s.members bytes
 
 -- the bytes end within the next item
-pub record Waits (s : Standing) (bytes : List ℕ) : Type 0 where
+pub record Waits (s : Progress) (bytes : List ℕ) : Type 0 where
   pub short : next_len s bytes ≡ Err None
 
--- A reader went on over bytes, to where others are left, and found coins, which it added to those that it had.
-pub record Goes (old new : Standing) (at : ℕ) (bytes : List ℕ) (next : ℕ) (rest : List ℕ) (had has : List SnapCoin) : Type 0 where
-  pub found : List SnapCoin
-  pub coins : has ≡ had ++ found
-  pub goes_on : (ys : List ℕ) → read_from old at (bytes ++ ys) ≡ after found (read_from new next (rest ++ ys))
-  pub counted : length found + new.left ≡ old.left
-  pub height : new.height ≡ old.height
+-- A reader between two items: where it stands, the offset of the next byte, the bytes that are there from it on, and the
+-- coins that it has.
+pub record Point : Type 0 where
+  pub progress : Progress
+  pub offset : ℕ
+  pub bytes : List ℕ
+  pub coins : List SnapCoin
 
--- The bytes break the form behind the coins that it found.
-pub record Breaks (old : Standing) (at : ℕ) (bytes : List ℕ) (wrong : Wrong) (had has : List SnapCoin) : Type 0 where
+abbrev pub point : Progress → ℕ → List ℕ → List SnapCoin → Point
+point progress offset bytes coins = record { progress = progress; offset = offset; bytes = bytes; coins = coins }
+
+-- what a call leaves: where the reader stands, and the coins that it has
+pub record Outcome : Type 0 where
+  pub progress : Progress
+  pub coins : List SnapCoin
+
+abbrev pub outcome : Progress → List SnapCoin → Outcome
+outcome progress coins = record { progress = progress; coins = coins }
+
+-- where a call leaves the reader that took so many of the bytes
+abbrev pub after_bytes : Point → ℕ → Outcome → Point
+after_bytes old len new = point new.progress (old.offset + len) (drop len old.bytes) new.coins
+
+-- the same point with more bytes
+abbrev pub with_more : Point → List ℕ → Point
+with_more old more = point old.progress old.offset (old.bytes ++ more) old.coins
+
+-- what its bytes say, and others behind them
+abbrev pub read_on : Point → List ℕ → Found
+read_on old more = read_from old.progress old.offset (old.bytes ++ more)
+
+-- A reader went on, and added the coins that it found.
+pub record Goes (old new : Point) : Type 0 where
   pub found : List SnapCoin
-  pub coins : has ≡ had ++ found
-  pub breaks : (ys : List ℕ) → read_from old at (bytes ++ ys) ≡ record { coins = found; fault = Some wrong }
+  pub coins : new.coins ≡ old.coins ++ found
+  pub goes_on : (more : List ℕ) → read_on old more ≡ after found (read_on new more)
+  pub counted : length found + new.progress.left ≡ old.progress.left
+  pub height : new.progress.height ≡ old.progress.height
+
+-- The bytes break the form behind the coins that it found and added.
+pub record Breaks (old : Point) (wrong : Wrong) (coins_now : List SnapCoin) : Type 0 where
+  pub found : List SnapCoin
+  pub coins : coins_now ≡ old.coins ++ found
+  pub breaks : (more : List ℕ) → read_on old more ≡ record { coins = found; fault = Some wrong }
 
 -- how many items may still come, at most
-abbrev pub rank : Standing → ℕ
+abbrev pub rank : Progress → ℕ
 rank s = 2 * s.left + (if s.members == 0 then 1 else 0)
 
-pub record TookItem (old new : Standing) (at : ℕ) (bytes : List ℕ) (len : ℕ) (had has : List SnapCoin) : Type 0 where
-  pub goes : Goes old new at bytes (at + len) (drop len bytes) had has
-  pub within : len ≤ length bytes
-  pub fits : IsBytes bytes
-  pub is : next_len old bytes ≡ Ok len
-  pub less : rank new < rank old
+-- an item was read, of so many bytes
+pub record TakesItem (old : Point) (len : ℕ) (new : Outcome) : Type 0 where
+  pub goes : Goes old (after_bytes old len new)
+  pub within : len ≤ length old.bytes
+  pub fits : IsBytes old.bytes
+  pub is : next_len old.progress old.bytes ≡ Ok len
+  pub less : rank new.progress < rank old.progress
 
-pub record BrokeItem (old : Standing) (at : ℕ) (bytes : List ℕ) (error : SnapError) (offset : ℕ) (had has : List SnapCoin) : Type 0 where
-  pub breaks : Breaks old at bytes (error, at + offset) had has
-  pub within : offset ≤ length bytes
+-- the next item breaks the form
+pub record BreaksItem (old : Point) (error : SnapError) (offset : ℕ) (coins_now : List SnapCoin) : Type 0 where
+  pub breaks : Breaks old (error, old.offset + offset) coins_now
+  pub within : offset ≤ length old.bytes
 
-pub record Stayed (old new : Standing) (bytes : List ℕ) (had has : List SnapCoin) : Type 0 where
-  pub waits : Waits old bytes
-  pub same : new ≡ old
-  pub coins : has ≡ had
+-- the next item isn't whole
+pub record Stays (old : Point) (new : Outcome) : Type 0 where
+  pub waits : Waits old.progress old.bytes
+  pub same : new.progress ≡ old.progress
+  pub coins : new.coins ≡ old.coins
 
 -- what reading one item does
-abbrev pub ItemStep : Result ℕ ItemFault → Standing → Standing → ℕ → List ℕ → List SnapCoin → List SnapCoin → Type 0
-ItemStep (Ok len) old new at bytes had has = TookItem old new at bytes len had has
-ItemStep (Err Unfinished) old new at bytes had has = Stayed old new bytes had has
-ItemStep (Err NoMemory) old new at bytes had has = Unit {0}
-ItemStep (Err (Bad error offset)) old new at bytes had has = BrokeItem old at bytes error offset had has
+abbrev pub ItemStep : Result ℕ ItemFault → Point → Outcome → Type 0
+ItemStep (Ok len) old new = TakesItem old len new
+ItemStep (Err Unfinished) old new = Stays old new
+ItemStep (Err NoMemory) old new = Unit {0}
+ItemStep (Err (Bad error offset)) old new = BreaksItem old error offset new.coins
 
 -- the fault is this one, unless memory ran out
-abbrev pub Stops : SnapFault → Standing → ℕ → List ℕ → List SnapCoin → List SnapCoin → Type 0
-Stops snap.NoMemory old at bytes had has = Unit {0}
-Stops (snap.Bad error offset) old at bytes had has = Breaks old at bytes (error, offset) had has
+abbrev pub Stops : SnapFault → Point → List SnapCoin → Type 0
+Stops snap.NoMemory old coins_now = Unit {0}
+Stops (snap.Bad error offset) old coins_now = Breaks old (error, offset) coins_now
 
 -- all items that are whole were read
-pub record TookItems (old new : Standing) (at : ℕ) (bytes : List ℕ) (used : ℕ) (had has : List SnapCoin) : Type 0 where
-  pub goes : Goes old new at bytes (at + used) (drop used bytes) had has
-  pub within : used ≤ length bytes
-  pub waits : Waits new (drop used bytes)
+pub record TakesItems (old : Point) (used : ℕ) (new : Outcome) : Type 0 where
+  pub goes : Goes old (after_bytes old used new)
+  pub within : used ≤ length old.bytes
+  pub waits : Waits new.progress (drop used old.bytes)
 
-abbrev pub ItemsStep : Result ℕ SnapFault → Standing → Standing → ℕ → List ℕ → List SnapCoin → List SnapCoin → Type 0
-ItemsStep (Ok used) old new at bytes had has = TookItems old new at bytes used had has
-ItemsStep (Err fault) old new at bytes had has = Stops fault old at bytes had has
+abbrev pub ItemsStep : Result ℕ SnapFault → Point → Outcome → Type 0
+ItemsStep (Ok used) old new = TakesItems old used new
+ItemsStep (Err fault) old new = Stops fault old new.coins
 
 -- the item that was begun became whole with so many bytes of a piece
-pub record Completed (old new : Standing) (at : ℕ) (held piece : List ℕ) (used : ℕ) (had has : List SnapCoin) : Type 0 where
-  pub goes : Goes old new at (held ++ piece) (at + length held + used) (drop used piece) had has
+pub record CompletesItem (old : Point) (piece : List ℕ) (used : ℕ) (new : Outcome) : Type 0 where
+  pub goes : Goes (with_more old piece) (point new.progress (old.offset + length old.bytes + used) (drop used piece) new.coins)
   pub within : used ≤ length piece
 
 -- or not with all of them
-pub record StillWaits (old new : Standing) (held piece now : List ℕ) (had has : List SnapCoin) : Type 0 where
-  pub all : now ≡ held ++ piece
-  pub waits : Waits old now
-  pub same : new ≡ old
-  pub coins : has ≡ had
+pub record StillWaits (old : Point) (piece : List ℕ) (new : Outcome) : Type 0 where
+  pub waits : Waits old.progress (old.bytes ++ piece)
+  pub same : new.progress ≡ old.progress
+  pub coins : new.coins ≡ old.coins
 
-abbrev pub CompleteStep : Result (Option ℕ) SnapFault → Standing → Standing → ℕ → List ℕ → List ℕ → List ℕ → List SnapCoin → List SnapCoin → Type 0
-CompleteStep (Ok (Some used)) old new at held piece now had has = Completed old new at held piece used had has
-CompleteStep (Ok None) old new at held piece now had has = StillWaits old new held piece now had has
-CompleteStep (Err fault) old new at held piece now had has = Stops fault old at (held ++ piece) had has
+abbrev pub CompleteStep : Result (Option ℕ) SnapFault → Point → List ℕ → Outcome → Type 0
+CompleteStep (Ok (Some used)) old piece new = CompletesItem old piece used new
+CompleteStep (Ok None) old piece new = StillWaits old piece new
+CompleteStep (Err fault) old piece new = Stops fault (with_more old piece) new.coins
 
 -- ---- the metadata
 

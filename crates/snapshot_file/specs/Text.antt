@@ -3,10 +3,12 @@ use Rattle.std.specs.Prelude.{◌≡◌, ℕ, ◌^◌, ◌<◌, ◌≤◌, List,
 use Rattle.std.specs.Int.{w64}
 use Rattle.std.specs.List.{flat_map, AllByRecursion}
 use Rattle.base_types.specs.Bytes.{compact, number_text}
+use Rattle.base_types.specs.Parameters.{message_start, max_size}
 use Rattle.base_types.specs.declared.hash.Hash32.{Hash32}
 use Rattle.base_types.specs.declared.hash.OutPoint.{OutPoint}
 use Rattle.base_types.specs.declared.coin.Coin.{Coin}
-use Rattle.coin_codec.specs.CoinText.{coin_text, CoinFits}
+use Rattle.coin_codec.specs.CoinText.{coin_text}
+use Rattle.base_types.specs.Coins.{CoinFits}
 
 -- the first five bytes
 abbrev pub magic : List ℕ
@@ -16,13 +18,9 @@ magic = 0x75 ∷ 0x74 ∷ 0x78 ∷ 0x6f ∷ 0xff ∷ []
 abbrev pub version : List ℕ
 version = 2 ∷ 0 ∷ []
 
--- the bytes of the network, regtest's (`chainparams.cpp`)
-abbrev pub network : List ℕ
-network = 0xfa ∷ 0xbf ∷ 0xb5 ∷ 0xda ∷ []
-
--- the metadata: the hash of the base block and the number of coins
+-- the metadata: these, the bytes of the network, the hash of the base block and the number of coins
 unfoldable pub head_text : Hash32 → ℕ → List ℕ
-head_text base count = magic ++ version ++ network ++ base.bytes ++ number_text w64 count
+head_text base count = magic ++ version ++ message_start ++ base.bytes ++ number_text w64 count
 
 -- before the coins of one transaction: its hash, and how many follow
 unfoldable pub group_head_text : Hash32 → ℕ → List ℕ
@@ -47,8 +45,9 @@ entry_of txid member = (record { txid = txid; index = member.0 }, member.1)
 unfoldable pub coins_of : List Group → List (OutPoint × Coin)
 coins_of groups = flat_map (λ group. map (entry_of group.txid) group.members) groups
 
+-- what a reader takes: it refuses a greater number of an output
 pub record MemberFits (member : ℕ × Coin) : Type 0 where
-  pub index : member.0 ≤ 33_554_432
+  pub index : member.0 ≤ max_size
   pub coin : CoinFits member.1
 
 -- a group has a coin

@@ -7,6 +7,12 @@ use crate::item_fault::ItemFault;
 use crate::items::read_head;
 use base_types::Hash32;
 
+// The first bytes of each file, and the version behind them (`SNAPSHOT_MAGIC_BYTES` and `VERSION` in Bitcoin Core's
+// `node/utxo_snapshot.h`).
+pub(crate) const MAGIC: [u8; 5] = [0x75, 0x74, 0x78, 0x6f, 0xff];
+
+pub(crate) const VERSION: [u8; 2] = [2, 0];
+
 /// The metadata: the hash of the base block, and the number of coins.
 #[derive(Clone, Copy, Debug, PartialEq, Eq)]
 pub struct SnapHead {
@@ -18,11 +24,11 @@ impl SnapHead {
     ghost use Rattle.snapshot_file.specs.Items.{from_first, head_at};
     ghost use Rattle.snapshot_file.specs.Steps.{HeadStep};
 
-    /// How many bytes it has.
+    // How many bytes it has.
     pub(crate) const LEN: usize = 51;
 
-    /// Adds to the bytes of metadata that was begun those that it lacks. Answers it, with how many it took of the piece,
-    /// or none where it isn't whole with all of them.
+    // Adds to the bytes of metadata that was begun those that it lacks. Answers it, with how many it took of the piece,
+    // or none where it isn't whole with all of them.
     pub(crate) fn complete(
         held: &mut Vec<u8>,
         piece: &[u8],

@@ -3,13 +3,13 @@
 use base_types::{CoinError, ReadError, SnapError};
 use coin_codec::CoinFault;
 
-/// Why an item was not read from the first of some bytes.
+// Why an item was not read from the first of some bytes.
 #[derive(Clone, Copy, Debug)]
 pub(crate) enum ItemFault {
-    /// The bytes end within the item.
+    // The bytes end within the item.
     Unfinished,
     NoMemory,
-    /// What is wrong, and its offset in the bytes.
+    // What is wrong, and its offset in the bytes.
     Bad { error: SnapError, at: usize },
 }
 
@@ -19,7 +19,7 @@ impl ItemFault {
     ghost use Rattle.snapshot_file.specs.Items.{as_stop};
     ghost use Rattle.snapshot_file.specs.ItemReading.{Says, OfCoin};
 
-    /// The fault of a field that begins there.
+    // The fault of a field that begins there.
     pub(crate) fn of_field(error: ReadError, at: usize) -> ItemFault
         ensures { (i : Input) → place i ≡ at → Says result (as_stop i error) }
     {
@@ -36,7 +36,7 @@ impl ItemFault {
         }
     }
 
-    /// The fault of a coin.
+    // The fault of a coin.
     pub(crate) fn of_coin(fault: CoinFault) -> ItemFault
         ensures { OfCoin fault result }
     {

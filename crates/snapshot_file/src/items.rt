@@ -9,21 +9,13 @@ ghost use Rattle.coin_codec.specs.Reading.{coin_at};
 ghost use Rattle.snapshot_file.specs.Items.{Stop, from_first, as_stop, coin_stop, mark_at, head_at, group_at, is_above as above, member_at};
 ghost use Rattle.snapshot_file.specs.ItemReading.{ReadsItem, ReadsFront, ReadsHash};
 
-use crate::head::SnapHead;
+use crate::head::{MAGIC, SnapHead, VERSION};
 use crate::item_fault::ItemFault;
-use base_types::{Coin, Cursor, Hash32, SnapError};
+use base_types::{Coin, Cursor, Hash32, MESSAGE_START, SnapError};
 use coin_codec::read_coin;
 use std::alloc::Global;
 
-/// The first bytes of each file, the version, and the bytes of the network, regtest's (Bitcoin Core's
-/// `node/utxo_snapshot.h` and `chainparams.cpp`).
-const MAGIC: [u8; 5] = [0x75, 0x74, 0x78, 0x6f, 0xff];
-
-const VERSION: [u8; 2] = [2, 0];
-
-const NETWORK: [u8; 4] = [0xfa, 0xbf, 0xb5, 0xda];
-
-/// The head of a group, and how many bytes it has.
+// The head of a group, and how many bytes it has.
 #[derive(Clone, Copy)]
 pub(crate) struct GroupHead {
     pub(crate) txid: Hash32,
@@ -31,7 +23,7 @@ pub(crate) struct GroupHead {
     pub(crate) len: usize,
 }
 
-/// A coin of a group with the number of its output, and how many bytes they have.
+// A coin of a group with the number of its output, and how many bytes they have.
 #[derive(Drop)]
 pub(crate) struct Member {
     pub(crate) index: u32,
@@ -77,7 +69,7 @@ fn head_of(cursor: &mut Cursor<'_>) -> Result<SnapHead, ItemFault>
 {
     mark_of(cursor, &MAGIC, SnapError::BadMagic, 0)?;
     mark_of(cursor, &VERSION, SnapError::BadVersion, 5)?;
-    mark_of(cursor, &NETWORK, SnapError::WrongNetwork, 7)?;
+    mark_of(cursor, &MESSAGE_START, SnapError::WrongNetwork, 7)?;
     let base = hash_of(cursor)?;
     match cursor.u64() {
         Ok(count) => Ok(SnapHead { base, count }),
@@ -85,7 +77,7 @@ fn head_of(cursor: &mut Cursor<'_>) -> Result<SnapHead, ItemFault>
     }
 }
 
-/// Reads the metadata, which has 51 bytes.
+// Reads the metadata, which has 51 bytes.
 pub(crate) fn read_head(bytes: &[u8]) -> Result<SnapHead, ItemFault>
     ensures { ReadsFront (λ head. head) (λ _. 51) result bytes.now (head_at (from_first bytes.now)) }
 {
@@ -124,7 +116,7 @@ fn group_of(cursor: &mut Cursor<'_>, left: u64) -> Result<(Hash32, u64), ItemFau
     Ok((txid, count))
 }
 
-/// Reads the head of a group, where so many coins are left in the file.
+// Reads the head of a group, where so many coins are left in the file.
 pub(crate) fn read_group(left: u64, bytes: &[u8]) -> Result<GroupHead, ItemFault>
     ensures { ReadsFront (λ group. (group.txid, group.count)) (λ group. group.len) result bytes.now (group_at left (from_first bytes.now)) }
 {
@@ -187,8 +179,8 @@ fn member_of(
     Ok((index, coin))
 }
 
-/// Reads a coin of a group with the number of its output. A height that was set is the base's. It takes one allocation,
-/// for the script.
+// Reads a coin of a group with the number of its output. A height that was set is the base's. It takes one allocation,
+// for the script.
 pub(crate) fn read_member(
     alloc: Global,
     base: Option<u32>,

@@ -8,8 +8,8 @@ mod fault;
 mod head;
 mod item_fault;
 mod items;
+mod progress;
 mod reader;
-mod standing;
 mod writing;
 
 pub use coins::{SnapCoin, SnapCoins};

@@ -2,14 +2,14 @@
 
 ghost use Rattle.std.specs.Prelude.{◌≡◌, ◌+◌, ◌*◌, ◌^◌, ◌≤◌, ◌++◌, [], length, None, Err, IfOk, IfErr, OnErr};
 
-use crate::coins::SnapCoins;
+use crate::coins::{SnapCoins, with_room};
 use crate::fault::SnapFault;
 use crate::head::SnapHead;
-use crate::standing::Standing;
+use crate::progress::Progress;
 use base_types::SnapError;
 use std::alloc::{AllocError, Global};
 
-/// The room for an item that isn't whole yet, which is taken once: twice the longest, a coin with a script of 10,000 bytes.
+// The room for an item that isn't whole yet, which is taken once: twice the longest, a coin with a script of 10,000 bytes.
 const HELD: usize = 20_480;
 
 /// What a piece made whole: the metadata, and coins in the order of the file.
@@ -19,14 +19,14 @@ pub struct Pieces {
     pub coins: SnapCoins,
 }
 
-/// Where a reader stands.
+// Where a reader stands.
 #[derive(Clone, Copy, Debug)]
 pub(crate) enum Stage {
-    /// Within the metadata.
+    // Within the metadata.
     Head,
-    /// Behind it.
-    Coins(Standing),
-    /// No further: each later call answers this.
+    // Behind it.
+    Coins(Progress),
+    // No further: each later call answers this.
     Failed(SnapFault),
 }
 
@@ -67,7 +67,7 @@ impl Reader {
     ghost use Rattle.std.specs.Prelude.{ℕ, List, Option, Some};
     ghost use Rattle.snapshot_file.specs.Steps.{Waits};
     ghost use Rattle.snapshot_file.specs.Part.{read_part};
-    ghost use Rattle.snapshot_file.specs.Fed.{bytes_fed, failed, begun, HasFed, FeedAnswer, Grows, finish_of, Finishes, MoveStep, TakeStep};
+    ghost use Rattle.snapshot_file.specs.Fed.{bytes_fed, fault_of, first_progress, HasFed, feeding, move, FeedAnswer, Grows, finish_of, Finishes, MoveStep, TakeStep};
     ghost use Rattle.snapshot_file.specs.declared.reader.Stage.TheVariants.{Coins as InCoins};
 
     /// A reader that was fed nothing, with room for the bytes of one item. It fails where no memory is left for that.
@@ -94,12 +94,12 @@ impl Reader {
         requires { bytes_fed self.old ≡ 51 }
         ensures set { (before : Option ℕ) (fed : List ℕ) → HasFed self.old before fed → HasFed self.new (Some height) fed }
         ensures count { bytes_fed self.new ≡ bytes_fed self.old }
-        ensures failed { failed self.new ≡ failed self.old }
+        ensures failed { fault_of self.new ≡ fault_of self.old }
     {
-        if let Stage::Coins(standing) = self.stage {
-            self.stage = Stage::Coins(Standing {
+        if let Stage::Coins(progress) = self.stage {
+            self.stage = Stage::Coins(Progress {
                 height: Some(height),
-                ..standing
+                ..progress
             });
         }
     }
@@ -107,62 +107,64 @@ impl Reader {
     // Completes the item that was begun, and reads those that follow.
     fn take_items(
         &mut self,
-        mut standing: Standing,
+        mut progress: Progress,
         piece: &[u8],
         coins: &mut SnapCoins,
     ) -> Result<(), SnapFault>
-        requires { bytes_fed self.old + length piece.now ≤ 2 ^ 63 }
-        ensures step { self.old.stage ≡ InCoins standing → Waits standing self.old.held.items → MoveStep result standing self.old self.new piece.now coins.old coins.new }
+        requires fits { bytes_fed self.old + length piece.now ≤ 2 ^ 63 }
+        requires none { coins.old ≡ [] }
+        ensures step { self.old.stage ≡ InCoins progress → Waits progress self.old.held.items → MoveStep result (move progress piece.now coins.old coins.new) self.old self.new }
         ensures few { 4 * length coins.new ≤ 4 * length coins.old + length piece.now + 4 }
     {
         if piece.is_empty() {
             return Ok(());
         }
-        coins.reserve(standing.most_coins(piece.len()))?;
+        *coins = with_room(self.alloc, progress.most_coins(piece.len()))?;
         let begun = self.fed();
         let mut used = 0;
         if !self.held.is_empty() {
-            match standing.complete(self.alloc, self.at, &mut self.held, piece, coins)? {
+            match progress.complete(self.alloc, self.at, &mut self.held, piece, coins)? {
                 None => return Ok(()),
                 Some(len) => used = len,
             }
         }
-        let more = standing.read_items(self.alloc, begun + used as u64, &piece[used..], coins)?;
+        let more = progress.read_items(self.alloc, begun + used as u64, &piece[used..], coins)?;
         self.held.clear();
         self.at = begun + (used + more) as u64;
         self.held.extend_from_slice(&piece[used + more..])?;
-        self.stage = Stage::Coins(standing);
+        self.stage = Stage::Coins(progress);
         Ok(())
     }
 
     // Takes the bytes of a piece, and adds what they make whole.
     fn take(&mut self, piece: &[u8], pieces: &mut Pieces) -> Result<(), SnapFault>
-        requires { bytes_fed self.old + length piece.now ≤ 2 ^ 63 }
-        ensures step { (height : Option ℕ) (fed : List ℕ) → HasFed self.old height fed → failed self.old ≡ None → pieces.old.head ≡ None → pieces.old.coins ≡ [] → TakeStep height fed piece.now result self.new pieces.new }
+        requires fits { bytes_fed self.old + length piece.now ≤ 2 ^ 63 }
+        requires none { pieces.old.coins ≡ [] }
+        ensures step { (height : Option ℕ) (fed : List ℕ) → HasFed self.old height fed → fault_of self.old ≡ None → pieces.old.head ≡ None → TakeStep (feeding height fed piece.now) result self.new pieces.new }
         ensures few { 4 * length pieces.new.coins ≤ 4 * length pieces.old.coins + length piece.now + 4 }
     {
         match self.stage {
             Stage::Failed(fault) => Err(fault),
-            Stage::Coins(standing) => self.take_items(standing, piece, &mut pieces.coins),
+            Stage::Coins(progress) => self.take_items(progress, piece, &mut pieces.coins),
             Stage::Head => {
                 let Some((head, used)) = SnapHead::complete(&mut self.held, piece)? else {
                     return Ok(());
                 };
                 pieces.head = Some(head);
-                let standing = self.begin_coins(head);
-                self.take_items(standing, &piece[used..], &mut pieces.coins)
+                let progress = self.begin_coins(head);
+                self.take_items(progress, &piece[used..], &mut pieces.coins)
             }
         }
     }
 
     // Stands behind the metadata.
-    fn begin_coins(&mut self, head: SnapHead) -> Standing
-        ensures result { result ≡ begun head }
-        ensures stage { self.new.stage ≡ InCoins (begun head) }
+    fn begin_coins(&mut self, head: SnapHead) -> Progress
+        ensures result { result ≡ first_progress head }
+        ensures stage { self.new.stage ≡ InCoins (first_progress head) }
         ensures at { self.new.at ≡ 51 }
         ensures held { self.new.held.items ≡ [] }
     {
-        let standing = Standing {
+        let progress = Progress {
             height: None,
             left: head.count,
             members: 0,
@@ -170,14 +172,14 @@ impl Reader {
         };
         self.held.clear();
         self.at = SnapHead::LEN as u64;
-        self.stage = Stage::Coins(standing);
-        standing
+        self.stage = Stage::Coins(progress);
+        progress
     }
 
     // Each later call answers the fault.
     fn fail(&mut self, fault: SnapFault, end: u64)
         requires { end ≤ 2 ^ 63 }
-        ensures failed { failed self.new ≡ Some fault }
+        ensures failed { fault_of self.new ≡ Some fault }
         ensures count { bytes_fed self.new ≡ end }
         ensures stage { self.new.stage ≡ Stage.Failed fault }
     {
@@ -192,7 +194,7 @@ impl Reader {
     /// piece, 22 times the piece.
     pub fn feed(&mut self, piece: &[u8]) -> Result<Pieces, SnapFault>
         requires { bytes_fed self.old + length piece.now ≤ 2 ^ 63 }
-        ensures answer { (height : Option ℕ) (fed : List ℕ) → HasFed self.old height fed → FeedAnswer height fed piece.now result self.new }
+        ensures answer { (height : Option ℕ) (fed : List ℕ) → HasFed self.old height fed → FeedAnswer (feeding height fed piece.now) result self.new }
 
         // At least four bytes make a coin whole, but for the one that was begun.
         ensures few { IfOk result (λ pieces. 4 * length pieces.coins ≤ length piece.now + 4) }
@@ -201,9 +203,9 @@ impl Reader {
         ensures grows { (height : Option ℕ) (fed : List ℕ) → Grows (read_part height fed) (read_part height (fed ++ piece.now)) }
 
         // After an error.
-        ensures same { (fault : SnapFault) → failed self.old ≡ Some fault → (result ≡ Err fault) × (self.new ≡ self.old) }
-        ensures err { IfErr result (λ fault. failed self.new ≡ Some fault) }
-        ensures count { OnErr result (failed self.old ≡ None → bytes_fed self.new ≡ bytes_fed self.old + length piece.now) }
+        ensures same { (fault : SnapFault) → fault_of self.old ≡ Some fault → (result ≡ Err fault) × (self.new ≡ self.old) }
+        ensures err { IfErr result (λ fault. fault_of self.new ≡ Some fault) }
+        ensures count { OnErr result (fault_of self.old ≡ None → bytes_fed self.new ≡ bytes_fed self.old + length piece.now) }
     {
         if let Stage::Failed(fault) = self.stage {
             return Err(fault);
@@ -228,13 +230,13 @@ impl Reader {
     pub fn finish(&self) -> Result<(), SnapFault>
         ensures answer { (height : Option ℕ) (fed : List ℕ) → HasFed self.now height fed → result ≡ finish_of height fed }
         ensures whole { (height : Option ℕ) (fed : List ℕ) → HasFed self.now height fed → Finishes height fed result }
-        ensures same { (fault : SnapFault) → failed self.now ≡ Some fault → result ≡ Err fault }
+        ensures same { (fault : SnapFault) → fault_of self.now ≡ Some fault → result ≡ Err fault }
     {
         match self.stage {
             Stage::Failed(fault) => Err(fault),
             Stage::Head => Err(self.short()),
-            Stage::Coins(standing) => {
-                if standing.left > 0 {
+            Stage::Coins(progress) => {
+                if progress.left > 0 {
                     return Err(self.short());
                 }
                 Ok(())

@@ -1,3 +1,7 @@
+ghost use Rattle.std.specs.Prelude.{◌≡◌, [], ◌∷◌};
+ghost use Rattle.snapshot_file.specs.Dump.{dump_coins, dump_text};
+ghost use Rattle.snapshot_file.specs.Examples.{base, small_coins, at_index, three_coins};
+
 use crate::{
     Pieces, Reader, SnapCoin, SnapCoins, SnapFault, SnapHead, write_group, write_head, write_member,
 };
@@ -7,12 +11,18 @@ use std::alloc::Global;
 use std::process::Abort;
 use std::test::Fail;
 
-/// The metadata with the count 1, a transaction's hash of bytes 0x11, and one coin of it.
-const SMALL: &[u8; 89] = b"utxo\xff\x02\x00\xfa\xbf\xb5\xda\
-    77777777777777777777777777777777\x01\x00\x00\x00\x00\x00\x00\x00\
-    \x11\x11\x11\x11\x11\x11\x11\x11\x11\x11\x11\x11\x11\x11\x11\x11\
-    \x11\x11\x11\x11\x11\x11\x11\x11\x11\x11\x11\x11\x11\x11\x11\x11\
-    \x01\x00\x03\x32\x07\x51";
+// The dump of one coin: the metadata with the count 1, a transaction's hash of bytes 0x11, and the coin. Coins of one
+// transaction are in the order of their keys' bytes, not of their numbers.
+fn small_dump() -> [u8; 89]
+    ensures text { result ≡ dump_text base small_coins }
+    ensures order { dump_coins three_coins ≡ at_index 255 ∷ at_index 16_512 ∷ at_index 256 ∷ [] }
+{
+    *b"utxo\xff\x02\x00\xfa\xbf\xb5\xda\
+        77777777777777777777777777777777\x01\x00\x00\x00\x00\x00\x00\x00\
+        \x11\x11\x11\x11\x11\x11\x11\x11\x11\x11\x11\x11\x11\x11\x11\x11\
+        \x11\x11\x11\x11\x11\x11\x11\x11\x11\x11\x11\x11\x11\x11\x11\x11\
+        \x01\x00\x03\x32\x07\x51"
+}
 
 // Adds what a piece made whole.
 fn add(all: &mut Pieces, pieces: Pieces) -> Result<(), Fail> {
@@ -61,10 +71,11 @@ fn read(
 
 // The same file with bytes in the place of those from one offset to another.
 fn altered(alloc: Global, from: usize, to: usize, bytes: &[u8]) -> Result<Vec<u8>, Fail> {
+    let small = small_dump();
     let mut file = Vec::new(alloc);
-    file.extend_from_slice(&SMALL[..from.min(89)])?;
+    file.extend_from_slice(&small[..from.min(89)])?;
     file.extend_from_slice(bytes)?;
-    file.extend_from_slice(&SMALL[to.min(89)..])?;
+    file.extend_from_slice(&small[to.min(89)..])?;
     Ok(file)
 }
 
@@ -89,23 +100,6 @@ fn heights(rt: HostRuntime) -> Result<(), Fail> {
             assert!(rt; pieces.coins.as_slice().len() == coins);
         }
     }
-    Ok(())
-}
-
-#[test]
-fn writing(rt: HostRuntime) -> Result<(), Fail> {
-    let coin = Coin {
-        value: 5_000_000_000,
-        script: Script::from_slice(rt.alloc(), b"\x51")?,
-        height: 1,
-        coinbase: true,
-    };
-    assert!(rt; coin.script.as_slice().len() == 1);
-    let mut file = Vec::new(rt.alloc());
-    write_head(&mut file, &Hash32 { bytes: [0x37; 32] }, 1)?;
-    write_group(&mut file, &Hash32 { bytes: [0x11; 32] }, 1)?;
-    write_member(&mut file, 0, &coin)?;
-    assert!(rt; file.as_slice() == SMALL.as_slice());
     Ok(())
 }
 

@@ -1,5 +1,6 @@
 use Rattle.std.proofs.Common.{◌≡◌, ◌<◌, ◌%◌, sym, ◌∙◌, arith}
-use Rattle.coin_codec.specs.Amount.{few_code, tens, left}
+use Rattle.coin_codec.proofs.AmountLaws.{few_code}
+use Rattle.coin_codec.specs.Amount.{tens, left}
 use Rattle.coin_codec.proofs.Codes.{taken, coded, nine_parts, zero_code}
 use Rattle.coin_codec.proofs.amount.compress.Goals as goal
 use Rattle.coin_codec.proofs.amount.compress.Goals.{then-loop-tens-test+else-left-eq0, else-loop-tens-test}

@@ -3,8 +3,8 @@ use Rattle.std.specs.Prelude.{Result, List, ℕ}
 use Rattle.base_types.specs.Reading.{Input}
 use Rattle.base_types.specs.Codec.{renamed}
 use Rattle.base_types.specs.declared.cursor.ReadError.{ReadError}
-use Rattle.coin_codec.specs.Further.{further_bytes, further_three}
-use Rattle.coin_codec.specs.KeyLaws.{key_taken}
+use Rattle.coin_codec.proofs.Further.{further_bytes, further_three}
+use Rattle.coin_codec.proofs.KeyLaws.{key_taken}
 use Rattle.coin_codec.proofs.key.key_of.Goals as goal
 
 pub returns-clause-found : goal.returns-clause-found

@@ -4,7 +4,7 @@ use Rattle.base_types.specs.Codec.{at}
 use Rattle.base_types.specs.Reading.{Input}
 use Rattle.base_types.specs.declared.hash.OutPoint.{OutPoint}
 use Rattle.coin_codec.specs.KeyText.{key_text, KeyFits}
-use Rattle.coin_codec.specs.KeyLaws.{key_codec}
+use Rattle.coin_codec.proofs.KeyLaws.{key_codec}
 use Rattle.coin_codec.specs.Reading.{key_at}
 use Rattle.coin_codec.proofs.key.read_key.Goals as goal
 

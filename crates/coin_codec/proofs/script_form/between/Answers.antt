@@ -1,5 +1,5 @@
 use Rattle.std.proofs.Common.{sym}
-use Rattle.coin_codec.proofs.Parts.{not_before, after_front, before_back, not_behind, not_so_long, is_between}
+use Rattle.coin_codec.proofs.Between.{not_before, after_front, before_back, not_behind, not_so_long, is_between}
 use Rattle.coin_codec.proofs.script_form.between.Goals as goal
 
 pub returns-in_err-strip_prefix : goal.returns-in_err-strip_prefix

@@ -1,5 +1,5 @@
 use Rattle.std.proofs.Common.{◌≡◌, subst, IfOk}
-use Rattle.coin_codec.proofs.Parts.{written}
+use Rattle.coin_codec.proofs.Between.{written}
 use Rattle.coin_codec.proofs.script_form.joined.Goals as goal
 
 pub returns : goal.returns

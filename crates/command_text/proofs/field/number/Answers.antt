@@ -4,4 +4,4 @@ use Rattle.command_text.proofs.field.number.Goals as goal
 
 pub returns-in_default-3-clause-value : goal.returns-in_default-3-clause-value
 returns-in_default-3-clause-value c =
-    sym (not_read c.in_default.field-0 c.args.digits c.args.least c.args.most c.args.why c.args.field.now (rw c.as_text.ensures at c.in_default.ensures.value.0) (search rules) (omega arith))
+    sym (not_read c.in_default.field-0 c.args.form c.args.field.now (rw c.as_text.ensures at c.in_default.ensures.value.0) (search rules) (omega arith))

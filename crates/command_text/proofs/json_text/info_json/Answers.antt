@@ -6,7 +6,6 @@ use Rattle.command_text.proofs.json_text.info_json.Goals as goal
 
 pub returns : goal.returns
 returns c =
-    let background = c.args.background.now in
-    let tip = c.args.tip.now in
-    let built = c.in_ok-value.ensures ∙ ap₂ (λ shown text. info_data shown c.args.headers c.args.height c.args.role text) c.in_ok-background.ensures.value c.in_ok-tip.ensures.text in
-    gives c.to_string.result _ (info_data (background_data background) c.args.headers c.args.height c.args.role (printed tip)) _ c.to_string.ensures.text built (without_float background c.args.headers c.args.height c.args.role (printed tip)) (info_text background c.args.headers c.args.height c.args.role tip c.in_ok-background.ensures.plain c.in_ok-tip.ensures.plain)
+    let info = c.args.info.now in
+    let built = c.in_ok-value.ensures ∙ ap₂ (info_data info) c.in_ok-background.ensures.value c.in_ok-tip.ensures.text in
+    gives c.to_string.result _ (info_data info (background_data info.background) (printed info.tip)) _ c.to_string.ensures.text built (without_float info info.background (printed info.tip)) (info_text info c.in_ok-background.ensures.plain c.in_ok-tip.ensures.plain)

@@ -1,6 +1,6 @@
 use Rattle.std.proofs.Common.{sym, ap, ◌∙◌}
 use Rattle.base_types.specs.Reading.{Input}
-use Rattle.base_types.specs.Codec.{IsBytes-slice}
+use Rattle.base_types.proofs.Codecs.{IsBytes-slice}
 use Rattle.snapshot_file.specs.Items.{group_at}
 use Rattle.snapshot_file.proofs.ItemLaws.{group_codec, front_is}
 use Rattle.snapshot_file.proofs.items.read_group.Goals as goal

@@ -1,4 +1,4 @@
-use Rattle.base_types.specs.Codec.{IsBytes-slice}
+use Rattle.base_types.proofs.Codecs.{IsBytes-slice}
 use Rattle.snapshot_file.proofs.ItemLaws.{head_read}
 use Rattle.snapshot_file.proofs.items.read_head.Goals as goal
 

@@ -6,7 +6,7 @@ use Rattle.snapshot_file.proofs.reader.Reader.base_height.Goals as goal
 
 pub returns-in-Coins-clause-set : goal.returns-in-Coins-clause-set
 returns-in-Coins-clause-set c = λ before fed h.
-    let s = c.in-Coins.standing in
+    let s = c.in-Coins.progress in
     let old = c.args.self.now in
     record {
       bytes = h.bytes;

@@ -15,10 +15,10 @@ use Rattle.chain_model.specs.BodyRules.{Place, body_broken, tx_broken, knows_wit
 use Rattle.block_checks.specs.declared.fault.CheckFault.{CheckFault}
 use Rattle.block_checks.specs.declared.fault.CheckFault.TheVariants.{NoMemory, Refused}
 use Rattle.block_checks.specs.Answer.{Answers}
-use Rattle.block_checks.specs.Groups.{Rules, structure_rules, witness_rules, standing_rules, has_unfinal, has_bad_height}
+use Rattle.chain_model.specs.BodyRules.{RuleList, structure_rules, witness_rules, place_rules, has_unfinal, has_bad_height}
 
 -- a rule of the first group is the first of all
-pub found : (first others : Rules) (r : BodyRefused) → first_broken first ≡ Some r → first_broken (first ++ others) ≡ Some r
+pub found : (first others : RuleList) (r : BodyRefused) → first_broken first ≡ Some r → first_broken (first ++ others) ≡ Some r
 unfolding first_broken
 found [] others r e = cc
 found (rule ∷ first) others r e = go rule.0 (λ k. found first others r k) e where
@@ -54,17 +54,17 @@ answers_same a b e (Err (Refused rule)) answers = cc
 
 -- ---- the groups of a body's rules
 
-two_past : (a b : Bool) (x y : BodyRefused) (others : Rules) → a ≡ false → b ≡ false → first_broken ((a, x) ∷ (b, y) ∷ others) ≡ first_broken others
+two_past : (a b : Bool) (x y : BodyRefused) (others : RuleList) → a ≡ false → b ≡ false → first_broken ((a, x) ∷ (b, y) ∷ others) ≡ first_broken others
 unfolding first_broken
 two_past true b x y others e f = cc
 two_past false true x y others e f = cc
 two_past false false x y others e f = refl
 
-pub refused_by_witness : (place : Place) (block : Block) (known : Bool) (committed : Option Hash32) (fault : CheckFault) → known ≡ knows_witnesses place → committed ≡ commitment_of block → has_unfinal place block ≡ false → has_bad_height place block ≡ false → Answers {A = Unit {0}} (first_broken (witness_rules known committed block)) (Err fault) → Answers {A = Unit {0}} (first_broken (standing_rules place block)) (Err fault)
+pub refused_by_witness : (place : Place) (block : Block) (known : Bool) (committed : Option Hash32) (fault : CheckFault) → known ≡ knows_witnesses place → committed ≡ commitment_of block → has_unfinal place block ≡ false → has_bad_height place block ≡ false → Answers {A = Unit {0}} (first_broken (witness_rules known committed block)) (Err fault) → Answers {A = Unit {0}} (first_broken (place_rules place block)) (Err fault)
 refused_by_witness place block known committed fault knows is final high answers =
-    refused_first (first_broken (witness_rules known committed block)) (first_broken (standing_rules place block)) same fault answers
+    refused_first (first_broken (witness_rules known committed block)) (first_broken (place_rules place block)) same fault answers
   where
-    same : (r : BodyRefused) → first_broken (witness_rules known committed block) ≡ Some r → first_broken (standing_rules place block) ≡ Some r
+    same : (r : BodyRefused) → first_broken (witness_rules known committed block) ≡ Some r → first_broken (place_rules place block) ≡ Some r
     same r e =
         two_past (has_unfinal place block) (has_bad_height place block) NotFinal BadHeight (witness_rules (knows_witnesses place) (commitment_of block) block ++ (nat_lt 4000000 (weight_of block), Weight) ∷ []) final high
         ∙ found (witness_rules (knows_witnesses place) (commitment_of block) block) ((nat_lt 4000000 (weight_of block), Weight) ∷ []) r
@@ -73,21 +73,21 @@ refused_by_witness place block known committed fault knows is final high answers
 pub refused_by_structure : (place : Place) (block : Block) (fault : CheckFault) → Answers {A = Unit {0}} (first_broken (structure_rules block)) (Err fault) → Answers {A = Unit {0}} (body_broken place block) (Err fault)
 unfolding body_broken
 refused_by_structure place block fault answers =
-    refused_first (first_broken (structure_rules block)) (body_broken place block) (λ r e. some_first (first_broken (structure_rules block)) (first_some (map tx_broken block.txs) ∷ first_broken (standing_rules place block) ∷ []) r e) fault answers
+    refused_first (first_broken (structure_rules block)) (body_broken place block) (λ r e. some_first (first_broken (structure_rules block)) (first_some (map tx_broken block.txs) ∷ first_broken (place_rules place block) ∷ []) r e) fault answers
 
 pub refused_by_transactions : (place : Place) (block : Block) (fault : CheckFault) → first_broken (structure_rules block) ≡ None → Answers {A = Unit {0}} (first_some (map tx_broken block.txs)) (Err fault) → Answers {A = Unit {0}} (body_broken place block) (Err fault)
 unfolding body_broken
 refused_by_transactions place block fault none answers =
     refused_first (first_some (map tx_broken block.txs)) (body_broken place block)
-    (λ r e. none_first (first_broken (structure_rules block)) (first_some (map tx_broken block.txs) ∷ first_broken (standing_rules place block) ∷ []) none
-    ∙ some_first (first_some (map tx_broken block.txs)) (first_broken (standing_rules place block) ∷ []) r e) fault answers
+    (λ r e. none_first (first_broken (structure_rules block)) (first_some (map tx_broken block.txs) ∷ first_broken (place_rules place block) ∷ []) none
+    ∙ some_first (first_some (map tx_broken block.txs)) (first_broken (place_rules place block) ∷ []) r e) fault answers
 
-pub left_to_standing : (place : Place) (block : Block) → first_broken (structure_rules block) ≡ None → first_some (map tx_broken block.txs) ≡ None → body_broken place block ≡ first_broken (standing_rules place block)
+pub left_to_place : (place : Place) (block : Block) → first_broken (structure_rules block) ≡ None → first_some (map tx_broken block.txs) ≡ None → body_broken place block ≡ first_broken (place_rules place block)
 unfolding body_broken
-left_to_standing place block none fine =
-    none_first (first_broken (structure_rules block)) (first_some (map tx_broken block.txs) ∷ first_broken (standing_rules place block) ∷ []) none
-    ∙ none_first (first_some (map tx_broken block.txs)) (first_broken (standing_rules place block) ∷ []) fine
-    ∙ only_first (first_broken (standing_rules place block))
+left_to_place place block none fine =
+    none_first (first_broken (structure_rules block)) (first_some (map tx_broken block.txs) ∷ first_broken (place_rules place block) ∷ []) none
+    ∙ none_first (first_some (map tx_broken block.txs)) (first_broken (place_rules place block) ∷ []) fine
+    ∙ only_first (first_broken (place_rules place block))
 
 -- ---- one transaction after another
 

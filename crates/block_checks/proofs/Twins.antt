@@ -1,40 +1,19 @@
 -- A set of the outpoints before an input finds the first that is named twice.
-use Rattle.std.proofs.Common.{◌≡◌, ◌≤◌, ◌<◌, ℕ, ◌+◌, length, drop, get_or, not, Bool, true, false, cond, ◌||◌, ◌&&◌, List, [], ◌∷◌, eqb, refl, ap, ◌∙◌, sym}
-use Rattle.std.specs.Prelude.{nat_eq}
+use Rattle.std.proofs.Common.{◌≡◌, ◌≤◌, ◌<◌, ℕ, ◌+◌, length, drop, get_or, not, Bool, true, false, cond, ◌||◌, List, [], ◌∷◌, refl, ap, ◌∙◌, sym}
 use Rattle.std.specs.List.{list_any}
-use Rattle.std.specs.declared.cmp.Ordering.{Ordering}
-use Rattle.std.specs.declared.cmp.Ordering.TheVariants.{Less, Equal, Greater}
-use Rattle.std.specs.Ordering.{is_eq, ordering_then, nat_cmp}
-use Rattle.std.specs.Cmp.Lexicographic.{slice_cmp, pointwise}
+use Rattle.std.specs.Ordering.{is_eq}
 use Rattle.std.specs.BTreeSet.{BTreeSet, contains}
 use Rattle.base_types.specs.Keys.{outpoint_cmp}
 use Rattle.base_types.specs.declared.hash.OutPoint.{OutPoint}
 use Rattle.block_codec.specs.declared.block.TxIn.{TxIn}
 use Rattle.chain_model.specs.BodyRules.{same_outpoint, has_twin_inputs}
+use Rattle.chain_model.proofs.OutPoints.{tied_outpoints}
 use Rattle.std.proofs.lemmas.List.{at_drop_more, at_drop_all}
-use Rattle.std.proofs.lemmas.Bool.Decides.{nat_tests}
 use Rattle.std.proofs.Common.{arith}
 
 -- an input names an outpoint of the set, or two name one
 abbrev pub has_clash : BTreeSet OutPoint → List TxIn → Bool
 has_clash set inputs = list_any (λ input. contains outpoint_cmp set input.prev) inputs || has_twin_inputs inputs
-
-numbers : (a b : ℕ) → is_eq (nat_cmp a b) ≡ eqb a b
-numbers a b = grind (arith, nat_tests)
-
-both : (r s : Ordering) → is_eq (ordering_then r s) ≡ (is_eq r && is_eq s)
-both Less s = refl
-both Equal s = refl
-both Greater s = refl
-
-texts : (xs ys : List ℕ) → is_eq (slice_cmp nat_cmp xs ys) ≡ pointwise nat_eq xs ys
-texts [] [] = refl
-texts [] (y ∷ ys) = refl
-texts (x ∷ xs) [] = refl
-texts (x ∷ xs) (y ∷ ys) = both (nat_cmp x y) (slice_cmp nat_cmp xs ys) ∙ ap (λ (b : Bool). b && is_eq (slice_cmp nat_cmp xs ys)) (numbers x y) ∙ ap (λ (b : Bool). eqb x y && b) (texts xs ys)
-
-pub tied : (a b : OutPoint) → is_eq (outpoint_cmp a b) ≡ same_outpoint a b
-tied a b = both (slice_cmp nat_cmp a.txid.bytes b.txid.bytes) (nat_cmp a.index b.index) ∙ ap (λ (t : Bool). t && is_eq (nat_cmp a.index b.index)) (texts a.txid.bytes b.txid.bytes) ∙ ap (λ (t : Bool). pointwise nat_eq a.txid.bytes b.txid.bytes && t) (numbers a.index b.index)
 
 either : (a s r t : Bool) → (cond a true s || (r || t)) ≡ ((a || r) || (s || t))
 either true s r t = refl
@@ -45,7 +24,7 @@ either false false r t = refl
 -- what one more outpoint adds
 module _ (set more : BTreeSet OutPoint) (key : OutPoint) (adds : (q : OutPoint) → contains outpoint_cmp more q ≡ cond (is_eq (outpoint_cmp key q)) true (contains outpoint_cmp set q)) where
   one : (q : OutPoint) → contains outpoint_cmp more q ≡ cond (same_outpoint key q) true (contains outpoint_cmp set q)
-  one q = adds q ∙ ap (λ (b : Bool). cond b true (contains outpoint_cmp set q)) (tied key q)
+  one q = adds q ∙ ap (λ (b : Bool). cond b true (contains outpoint_cmp set q)) (tied_outpoints key q)
 
   any_more : (inputs : List TxIn) → list_any (λ input. contains outpoint_cmp more input.prev) inputs ≡ (list_any (λ input. same_outpoint key input.prev) inputs || list_any (λ input. contains outpoint_cmp set input.prev) inputs)
   any_more [] = refl

@@ -1,3 +1,2 @@
 pub mod Answer
-pub mod Groups
-pub mod Standing
+pub mod Place

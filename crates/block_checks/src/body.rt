@@ -7,23 +7,23 @@ ghost use Rattle.chain_model.specs.BodyRules.{body_broken, place_below, tx_broke
 ghost use Rattle.block_codec.specs.Text.{txid_of};
 ghost use Rattle.block_codec.specs.Weight.{weight_of};
 ghost use Rattle.block_checks.specs.Answer.{Answers};
-ghost use Rattle.block_checks.specs.Standing.{place_of};
-ghost use Rattle.block_checks.specs.Groups.{standing_rules};
+ghost use Rattle.block_checks.specs.Place.{place_of};
+ghost use Rattle.chain_model.specs.BodyRules.{place_rules};
 
 use crate::fault::CheckFault;
 use crate::finality::has_unfinal_transaction;
 use crate::height_push::has_bad_height;
-use crate::place::Standing;
+use crate::place::Place;
 use crate::structure::check_structure;
 use crate::transaction::check_transaction;
 use crate::witness::check_witness;
 use base_types::{BodyRefused, Hash32};
-use block_codec::{Block, Tx, weight};
+use block_codec::{Block, HashedBlock, Tx, txids, weight};
 use chain_model::TreeView;
-use merkle::{commitment, txids};
+use merkle::commitment;
 use std::alloc::Global;
 
-/// The most weight that a block may have (BIP141).
+// The most weight that a block may have (BIP 141).
 const MAX_WEIGHT: u64 = 4_000_000;
 
 /// Checks the body of a block whose parent is in the tree: all rules that need no coins, by the heights from which the
@@ -33,37 +33,36 @@ pub fn check_body<T: TreeView>(alloc: Global, block: &Block, tree: &T) -> Result
     ensures { Answers (body_broken (place_below (T.tree tree.now) block.now.header.prev) block.now) result }
 {
     let txids = txids(alloc, block.txs.as_slice())?;
-    check_hashed_body(alloc, block, &txids, tree)
+    let place = Place::below(tree, &block.header.prev);
+    check_at(alloc, &place, block, &txids)
 }
 
-/// The same where the txids of the block's transactions are known, so that none is hashed once more.
+/// The same of a block whose txids are known, so that no transaction is hashed once more.
 pub fn check_hashed_body<T: TreeView>(
     alloc: Global,
-    block: &Block,
-    txids: &[Hash32],
+    block: &HashedBlock,
     tree: &T,
 ) -> Result<(), CheckFault>
-    requires parent { contains_key (T.tree tree.now).headers block.now.header.prev ≡ true }
-    requires hashed { txids.now ≡ map txid_of block.now.txs }
+    requires { contains_key (T.tree tree.now).headers block.now.header.prev ≡ true }
     ensures { Answers (body_broken (place_below (T.tree tree.now) block.now.header.prev) block.now) result }
 {
-    let standing = Standing::below(tree, &block.header.prev);
-    check_at(alloc, &standing, block, txids)
+    let place = Place::below(tree, &block.block().header.prev);
+    check_at(alloc, &place, block.block(), block.txids())
 }
 
 /// The same by where the block stands.
-pub fn check_at(
+pub(crate) fn check_at(
     alloc: Global,
-    standing: &Standing,
+    place: &Place,
     block: &Block,
     txids: &[Hash32],
 ) -> Result<(), CheckFault>
     requires { txids.now ≡ map txid_of block.now.txs }
-    ensures { Answers (body_broken (place_of standing.now) block.now) result }
+    ensures { Answers (body_broken (place_of place.now) block.now) result }
 {
     check_structure(alloc, block, txids)?;
     check_transactions(alloc, block.txs.as_slice())?;
-    check_standing(alloc, standing, block)
+    check_place(alloc, place, block)
 }
 
 fn check_transactions(alloc: Global, txs: &[Tx]) -> Result<(), CheckFault>
@@ -81,18 +80,18 @@ fn is_too_heavy(block: &Block) -> bool
     weight(block) > MAX_WEIGHT
 }
 
-/// The rules that ask where the block stands, and the weight.
+// The rules that ask where the block stands, and the weight.
 #[tactic(auto, unfolding(chain_model::specs::Rules::first_broken))]
-fn check_standing(alloc: Global, standing: &Standing, block: &Block) -> Result<(), CheckFault>
-    ensures { Answers (first_broken (standing_rules (place_of standing.now) block.now)) result }
+fn check_place(alloc: Global, place: &Place, block: &Block) -> Result<(), CheckFault>
+    ensures { Answers (first_broken (place_rules (place_of place.now) block.now)) result }
 {
-    if has_unfinal_transaction(standing, block) {
+    if has_unfinal_transaction(place, block) {
         return Err(CheckFault::Refused(BodyRefused::NotFinal));
     }
-    if has_bad_height(alloc, standing, block)? {
+    if has_bad_height(alloc, place, block)? {
         return Err(CheckFault::Refused(BodyRefused::BadHeight));
     }
-    check_witness(alloc, standing.knows_witnesses(), commitment(block), block)?;
+    check_witness(alloc, place.knows_witnesses(), commitment(block), block)?;
     if is_too_heavy(block) {
         return Err(CheckFault::Refused(BodyRefused::Weight));
     }

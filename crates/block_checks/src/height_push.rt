@@ -1,23 +1,27 @@
-//! The height at the head of a coinbase's script (BIP34).
+//! The height at the head of a coinbase's script (BIP 34).
 
 ghost use Rattle.std.specs.Prelude.{◌≡◌, ◌++◌, [], ◌∷◌, length, nat_eq, nat_le, nat_lt, IfOk, cond};
 ghost use Rattle.std.specs.List.{starts_with};
 ghost use Rattle.chain_model.specs.BodyRules.{height_push, least_bytes, without_sign, first_script as first_script_of};
-ghost use Rattle.block_checks.specs.Standing.{place_of};
-ghost use Rattle.block_checks.specs.Groups.{has_bad_height as lacks_height};
+ghost use Rattle.block_checks.specs.Place.{place_of};
+ghost use Rattle.chain_model.specs.BodyRules.{has_bad_height as lacks_height};
 
-use crate::place::Standing;
+use crate::place::Place;
 use block_codec::{Block, Tx};
 use std::alloc::{AllocError, Global};
 
 /// Whether the coinbase's script has to begin with the push of the block's height, and doesn't.
-pub fn has_bad_height(alloc: Global, standing: &Standing, block: &Block) -> Result<bool, AllocError>
-    ensures { IfOk result (λ bad. bad ≡ lacks_height (place_of standing.now) block.now) }
+pub(crate) fn has_bad_height(
+    alloc: Global,
+    place: &Place,
+    block: &Block,
+) -> Result<bool, AllocError>
+    ensures { IfOk result (λ bad. bad ≡ lacks_height (place_of place.now) block.now) }
 {
-    if standing.height < u64::from(standing.rules.bip34) {
+    if place.height < u64::from(place.rules.bip34) {
         return Ok(false);
     }
-    Ok(!starts_with_height(alloc, first_script(block.txs.as_slice()), standing.height)?)
+    Ok(!starts_with_height(alloc, first_script(block.txs.as_slice()), place.height)?)
 }
 
 fn first_script(txs: &[Tx]) -> &[u8]
@@ -32,7 +36,7 @@ fn first_script(txs: &[Tx]) -> &[u8]
     }
 }
 
-/// Whether a script begins with the push of a height: one byte for 1 to 16, else a length and the height's bytes.
+// Whether a script begins with the push of a height: one byte for 1 to 16, else a length and the height's bytes.
 fn starts_with_height(alloc: Global, script: &[u8], height: u64) -> Result<bool, AllocError>
     ensures { IfOk result (λ starts. starts ≡ starts_with nat_eq script.now (height_push height)) }
 {
@@ -46,7 +50,7 @@ fn starts_with_height(alloc: Global, script: &[u8], height: u64) -> Result<bool,
     Ok(usize::from(*first) == bytes.len() && rest.starts_with(&bytes))
 }
 
-/// The least bytes of a height, the lowest first, of which the last is below 128.
+// The least bytes of a height, the lowest first, of which the last is below 128.
 fn height_bytes(alloc: Global, height: u64) -> Result<Vec<u8>, AllocError>
     ensures { IfOk result (λ bytes. bytes.items ≡ without_sign (least_bytes 8 height)) }
 {
@@ -57,7 +61,7 @@ fn height_bytes(alloc: Global, height: u64) -> Result<Vec<u8>, AllocError>
     Ok(bytes)
 }
 
-/// The least bytes of a number, the lowest first.
+// The least bytes of a number, the lowest first.
 fn bytes_of(alloc: Global, number: u64) -> Result<Vec<u8>, AllocError>
     ensures { IfOk result (λ bytes. bytes.items ≡ least_bytes 8 number) }
 {
@@ -72,7 +76,7 @@ fn bytes_of(alloc: Global, number: u64) -> Result<Vec<u8>, AllocError>
     Ok(bytes)
 }
 
-/// Whether the top bit of the last byte would be taken for a sign.
+// Whether the top bit of the last byte would be taken for a sign.
 fn ends_with_sign(bytes: &[u8]) -> bool
     ensures { without_sign bytes.now ≡ cond result (bytes.now ++ 0 ∷ []) bytes.now }
 {

@@ -11,7 +11,7 @@ use std::alloc::{AllocError, Global};
 use std::collections::BTreeSet;
 
 /// Whether two inputs name one outpoint. Up to two inputs are compared without memory.
-pub fn has_duplicate_input(alloc: Global, inputs: &[TxIn]) -> Result<bool, AllocError>
+pub(crate) fn has_duplicate_input(alloc: Global, inputs: &[TxIn]) -> Result<bool, AllocError>
     ensures { IfOk result (λ found. found ≡ some_twins inputs.now) }
 {
     match inputs {
@@ -21,7 +21,7 @@ pub fn has_duplicate_input(alloc: Global, inputs: &[TxIn]) -> Result<bool, Alloc
     }
 }
 
-/// The same by a set of the outpoints before each input.
+// The same by a set of the outpoints before each input.
 fn has_repeated_outpoint(alloc: Global, inputs: &[TxIn]) -> Result<bool, AllocError>
     ensures { IfOk result (λ found. found ≡ some_twins inputs.now) }
 {
@@ -35,7 +35,7 @@ fn has_repeated_outpoint(alloc: Global, inputs: &[TxIn]) -> Result<bool, AllocEr
 }
 
 /// Whether some input names no output.
-pub fn has_null_outpoint(inputs: &[TxIn]) -> bool
+pub(crate) fn has_null_outpoint(inputs: &[TxIn]) -> bool
     ensures { result ≡ list_any names_no_output inputs.now }
 {
     for input in inputs {
@@ -46,7 +46,7 @@ pub fn has_null_outpoint(inputs: &[TxIn]) -> bool
     false
 }
 
-/// Whether an input names the zero hash and the index 4,294,967,295, as a coinbase's one does.
+// Whether an input names the zero hash and the index 4,294,967,295, as a coinbase's one does.
 fn names_nothing(input: &TxIn) -> bool
     ensures { result ≡ names_no_output input.now }
 {

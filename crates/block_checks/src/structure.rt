@@ -6,7 +6,7 @@ ghost use Rattle.block_codec.specs.Text.{txid_of, is_coinbase as names_no_output
 ghost use Rattle.chain_model.specs.Rules.{first_broken};
 ghost use Rattle.chain_model.specs.BodyRules.{starts_with_coinbase as first_is_coinbase, others_of};
 ghost use Rattle.block_checks.specs.Answer.{Answers};
-ghost use Rattle.block_checks.specs.Groups.{structure_rules, is_too_large as exceeds_limits};
+ghost use Rattle.chain_model.specs.BodyRules.{structure_rules, is_too_large as exceeds_limits};
 
 use crate::fault::CheckFault;
 use base_types::{BodyRefused, Hash32};
@@ -14,12 +14,16 @@ use block_codec::{Block, Tx, is_coinbase, stripped_size};
 use merkle::root;
 use std::alloc::Global;
 
-/// The most bytes that a block may have in the form without witnesses, and the most transactions.
+// The most bytes that a block may have in the form without witnesses, and the most transactions.
 const MAX_STRIPPED: u64 = 1_000_000;
 
 /// The first rule of its parts that a block with these txids breaks.
 #[tactic(auto, unfolding(chain_model::specs::Rules::first_broken))]
-pub fn check_structure(alloc: Global, block: &Block, txids: &[Hash32]) -> Result<(), CheckFault>
+pub(crate) fn check_structure(
+    alloc: Global,
+    block: &Block,
+    txids: &[Hash32],
+) -> Result<(), CheckFault>
     requires { txids.now ≡ map txid_of block.now.txs }
     ensures { Answers (first_broken (structure_rules block.now)) result }
 {

@@ -1,13 +1,11 @@
-mod contents;
-mod standing;
-
 use crate::body::check_at;
 use crate::fault::CheckFault;
-use crate::place::Standing;
+use crate::place::Place;
 use base_types::{BodyRefused, Hash32, OutPoint, Rules, Script, TxOut};
-use block_codec::{Block, Header, Inputs, Outputs, Stack, Tx, TxIn, Txs};
-use merkle::{computed_commitment, root, txids};
+use block_codec::{Block, GENESIS, Inputs, Outputs, Stack, Tx, TxIn, Txs, txids};
+use merkle::{computed_commitment, root};
 use std::alloc::{AllocError, Global};
+use std::test::Fail;
 
 const ZERO: Hash32 = Hash32 { bytes: [0; 32] };
 
@@ -16,54 +14,7 @@ const NOTHING: OutPoint = OutPoint {
     index: u32::MAX,
 };
 
-const A: OutPoint = OutPoint {
-    txid: ZERO,
-    index: 0,
-};
-
-const B: OutPoint = OutPoint {
-    txid: ZERO,
-    index: 1,
-};
-
-const C: OutPoint = OutPoint {
-    txid: Hash32 { bytes: [1; 32] },
-    index: 1,
-};
-
-const D: OutPoint = OutPoint {
-    txid: Hash32 { bytes: [1; 32] },
-    index: u32::MAX,
-};
-
-const MAX_MONEY: i64 = 2_100_000_000_000_000;
-
-// A block of a coinbase and copies of one other transaction.
-#[derive(Clone, Copy)]
-struct Shape<'a> {
-    // Whether it has no transaction at all.
-    empty: bool,
-    height: u64,
-    median: u32,
-    rules: Rules,
-    first: OutPoint,
-    script: &'a [u8],
-    items: &'a [&'a [u8]],
-    // What is added to the last byte of the right commitment, where there is one.
-    committed: Option<u8>,
-    copies: u32,
-    prevs: &'a [OutPoint],
-    values: &'a [i64],
-    sequence: u32,
-    lock_time: u32,
-    witness: &'a [&'a [u8]],
-    // The bytes of the script of the coinbase's first output.
-    filler: usize,
-    root: Option<Hash32>,
-}
-
-const PLAIN: Shape<'static> = Shape {
-    empty: false,
+const PLACE: Place = Place {
     height: 1,
     median: 500_000_000,
     rules: Rules {
@@ -72,154 +23,66 @@ const PLAIN: Shape<'static> = Shape {
         csv: 1,
         segwit: 1,
     },
-    first: NOTHING,
-    script: &[0x51, 0],
-    items: &[],
-    committed: None,
-    copies: 1,
-    prevs: &[A],
-    values: &[1],
-    sequence: 0,
-    lock_time: 0,
-    witness: &[],
-    filler: 0,
-    root: None,
 };
 
+// A transaction that spends outputs of the zero hash by their indexes, with an output of this script.
 fn tx_of(
     alloc: Global,
-    prevs: &[OutPoint],
+    indexes: &[u32],
     script: &[u8],
-    items: &[&[u8]],
-    shape: &Shape,
+    item: &[u8],
+    paid_to: &[u8],
 ) -> Result<Tx, AllocError> {
     let mut inputs = Inputs::new(alloc);
-    for prev in prevs {
+    for index in indexes {
         let mut stack = Stack::new(alloc);
-        for item in items {
-            stack.push(Script::from_slice(alloc, item)?)?;
-        }
+        stack.push(Script::from_slice(alloc, item)?)?;
         inputs.push(TxIn {
-            prev: *prev,
+            prev: OutPoint {
+                index: *index,
+                ..NOTHING
+            },
             script: Script::from_slice(alloc, script)?,
-            sequence: shape.sequence,
+            sequence: 0,
             stack,
         })?;
     }
     let mut outputs = Outputs::new(alloc);
-    for value in shape.values {
-        outputs.push(TxOut {
-            value: *value,
-            script: Script::new(alloc),
-        })?;
-    }
+    outputs.push(TxOut {
+        value: 1,
+        script: Script::from_slice(alloc, paid_to)?,
+    })?;
     Ok(Tx {
         version: 1,
         inputs,
         outputs,
-        lock_time: shape.lock_time,
+        lock_time: 0,
     })
 }
 
-fn coinbase_of(alloc: Global, shape: &Shape) -> Result<Tx, AllocError> {
-    let mut coinbase = tx_of(
-        alloc,
-        &[shape.first],
-        shape.script,
-        shape.items,
-        &Shape {
-            values: &[],
-            lock_time: 0,
-            ..*shape
-        },
-    )?;
-    let filler = vec![in alloc; 0; shape.filler]?;
-    coinbase.outputs.push(TxOut {
-        value: 0,
-        script: Script::from_slice(alloc, &filler)?,
-    })?;
-    Ok(coinbase)
-}
-
-fn txs_of(alloc: Global, shape: &Shape, commitment: Option<Hash32>) -> Result<Txs, AllocError> {
+// A block of a coinbase that commits to this hash, and a transaction with a witness that spends outputs by their indexes.
+fn block_of(alloc: Global, committed: &Hash32, indexes: &[u32]) -> Result<Block, AllocError> {
+    let mut commitment = Vec::from_slice(alloc, &[0x6a, 0x24, 0xaa, 0x21, 0xa9, 0xed])?;
+    commitment.extend_from_slice(&committed.bytes)?;
     let mut txs = Txs::new(alloc);
-    if shape.empty {
-        return Ok(txs);
-    }
-    let mut coinbase = coinbase_of(alloc, shape)?;
-    if let Some(hash) = commitment {
-        let mut script = Vec::from_slice(alloc, &[0x6a, 0x24, 0xaa, 0x21, 0xa9, 0xed])?;
-        script.extend_from_slice(&hash.bytes)?;
-        coinbase.outputs.push(TxOut {
-            value: 0,
-            script: Script::from_slice(alloc, &script)?,
-        })?;
-    }
-    txs.push(coinbase)?;
-    for _ in 0..shape.copies {
-        txs.push(tx_of(alloc, shape.prevs, &[], shape.witness, shape)?)?;
-    }
-    Ok(txs)
+    txs.push(tx_of(alloc, &[u32::MAX], &[0x51, 0], &[0; 32], &commitment)?)?;
+    txs.push(tx_of(alloc, indexes, &[], &[1], &[0x51])?)?;
+    let txids = txids(alloc, txs.as_slice())?;
+    let mut header = GENESIS;
+    header.root = root(alloc, &txids)?.hash;
+    Ok(Block { header, txs })
 }
 
-fn block_of(alloc: Global, shape: &Shape) -> Result<Block, AllocError> {
-    let header = Header {
-        version: 4,
-        prev: ZERO,
-        root: ZERO,
-        time: 600_000_000,
-        bits: 0,
-        nonce: 0,
-    };
-    let mut block = Block {
-        header,
-        txs: txs_of(alloc, shape, None)?,
-    };
-    if let Some(wrong) = shape.committed {
-        let mut hash = computed_commitment(alloc, &block, &[0; 32])?;
-        hash.bytes[31] ^= wrong;
-        block = Block {
-            header,
-            txs: txs_of(alloc, shape, Some(hash))?,
-        };
+// Blocks that commit to their witnesses: one that breaks no rule, and one that spends an output twice.
+#[test]
+fn blocks_with_witnesses(rt: HostRuntime) -> Result<(), Fail> {
+    let twice = Err(CheckFault::Refused(BodyRefused::DuplicateInput));
+    for (indexes, want) in [([0, 1, 2], Ok(())), ([0, 1, 0], twice)] {
+        let draft = block_of(rt.alloc(), &ZERO, &indexes)?;
+        let committed = computed_commitment(rt.alloc(), &draft, &[0; 32])?;
+        let block = block_of(rt.alloc(), &committed, &indexes)?;
+        let txids = txids(rt.alloc(), block.txs.as_slice())?;
+        assert_eq!(rt; check_at(rt.alloc(), &PLACE, &block, &txids), want);
     }
-    let txids = txids(alloc, block.txs.as_slice())?;
-    block.header.root = match shape.root {
-        Some(hash) => hash,
-        None => root(alloc, &txids)?.hash,
-    };
-    Ok(block)
+    Ok(())
 }
-
-fn answer(alloc: Global, shape: &Shape) -> Result<Option<BodyRefused>, AllocError> {
-    let block = block_of(alloc, shape)?;
-    let standing = Standing {
-        height: shape.height,
-        median: shape.median,
-        rules: shape.rules,
-    };
-    let txids = txids(alloc, block.txs.as_slice())?;
-    match check_at(alloc, &standing, &block, &txids) {
-        Ok(()) => Ok(None),
-        Err(CheckFault::Refused(rule)) => Ok(Some(rule)),
-        Err(CheckFault::NoMemory) => Err(AllocError),
-    }
-}
-
-// The number of rows whose block isn't answered so.
-fn wrong_rows(alloc: Global, rows: &[(Shape, Option<BodyRefused>)]) -> Result<u32, AllocError> {
-    let mut wrong = 0u32;
-    for (shape, want) in rows {
-        if answer(alloc, shape)? != *want {
-            wrong = wrong.saturating_add(1);
-        }
-    }
-    Ok(wrong)
-}
-
-const LATE: Rules = Rules {
-    version4: 1,
-    bip34: 2,
-    csv: 2,
-    segwit: 2,
-};

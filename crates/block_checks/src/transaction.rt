@@ -2,21 +2,19 @@
 
 ghost use Rattle.std.specs.Prelude.{◌≡◌, ◌||◌, pos, length, nat_lt, unsigned_abs};
 ghost use Rattle.std.specs.List.{list_any};
+ghost use Rattle.base_types.specs.Parameters.{max_money};
 ghost use Rattle.chain_model.specs.BodyRules.{is_out_of_range as beyond_money, has_bad_value as some_bad_value, has_bad_coinbase_script as bad_coinbase_script, has_null_input as some_null_input, tx_broken};
 ghost use Rattle.block_checks.specs.Answer.{Answers};
 
 use crate::fault::CheckFault;
 use crate::inputs::{has_duplicate_input, has_null_outpoint};
-use base_types::{BodyRefused, TxOut};
+use base_types::{BodyRefused, MAX_MONEY, TxOut};
 use block_codec::{Tx, TxIn, is_coinbase};
 use std::alloc::Global;
 
-/// The most satoshis that there can be.
-const MAX_MONEY: i64 = 2_100_000_000_000_000;
-
 /// The first rule that a transaction breaks by itself.
 #[tactic(auto, unfolding(chain_model::specs::Rules::first_broken))]
-pub fn check_transaction(alloc: Global, tx: &Tx) -> Result<(), CheckFault>
+pub(crate) fn check_transaction(alloc: Global, tx: &Tx) -> Result<(), CheckFault>
     ensures { Answers (tx_broken tx.now) result }
 {
     let inputs = tx.inputs.as_slice();
@@ -42,7 +40,7 @@ pub fn check_transaction(alloc: Global, tx: &Tx) -> Result<(), CheckFault>
     Ok(())
 }
 
-/// Whether an output's value, or a sum of the first outputs, is out of range.
+// Whether an output's value, or a sum of the first outputs, is out of range.
 fn has_bad_value(outputs: &[TxOut]) -> bool
     ensures { result ≡ some_bad_value (pos 0) outputs.now }
 {
@@ -62,7 +60,7 @@ fn has_bad_value(outputs: &[TxOut]) -> bool
 fn is_out_of_range(output: &TxOut) -> bool
     ensures { result ≡ beyond_money output.now.value }
 {
-    output.value < 0 || output.value > MAX_MONEY
+    output.value < 0 || output.value > MAX_MONEY as i64
 }
 
 fn satoshis(output: &TxOut) -> u64
@@ -72,19 +70,19 @@ fn satoshis(output: &TxOut) -> u64
 }
 
 fn is_too_much(total: u64) -> bool
-    ensures { result ≡ nat_lt 2100000000000000 total }
+    ensures { result ≡ nat_lt max_money total }
 {
-    total > MAX_MONEY.unsigned_abs()
+    total > MAX_MONEY
 }
 
-/// Whether the script of a coinbase has fewer than 2 or more than 100 bytes.
+// Whether the script of a coinbase has fewer than 2 or more than 100 bytes.
 fn has_bad_coinbase_script(tx: &Tx) -> bool
     ensures { result ≡ bad_coinbase_script tx.now }
 {
     is_coinbase(tx) && has_bad_script(tx.inputs.as_slice())
 }
 
-/// Whether some input's script has fewer than 2 or more than 100 bytes.
+// Whether some input's script has fewer than 2 or more than 100 bytes.
 fn has_bad_script(inputs: &[TxIn]) -> bool
     ensures { result ≡ list_any (λ input. nat_lt (length input.script) 2 || nat_lt 100 (length input.script)) inputs.now }
 {
@@ -97,7 +95,7 @@ fn has_bad_script(inputs: &[TxIn]) -> bool
     false
 }
 
-/// Whether a transaction that isn't a coinbase has an input that names no output.
+// Whether a transaction that isn't a coinbase has an input that names no output.
 fn has_null_input(tx: &Tx) -> bool
     ensures { result ≡ some_null_input tx.now }
 {

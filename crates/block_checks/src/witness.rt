@@ -1,4 +1,4 @@
-//! Witnesses and the commitment to them (BIP141).
+//! Witnesses and the commitment to them (BIP 141).
 
 ghost use Rattle.std.specs.Prelude.{◌≡◌, Some, true};
 ghost use Rattle.std.specs.Option.{option_copied};
@@ -7,7 +7,7 @@ ghost use Rattle.block_codec.specs.Text.{has_witness as some_stack};
 ghost use Rattle.chain_model.specs.Rules.{first_broken};
 ghost use Rattle.chain_model.specs.BodyRules.{first_stack as first_stack_of, nonce_of};
 ghost use Rattle.block_checks.specs.Answer.{Answers};
-ghost use Rattle.block_checks.specs.Groups.{witness_rules};
+ghost use Rattle.chain_model.specs.BodyRules.{witness_rules};
 
 use crate::fault::CheckFault;
 use base_types::{BodyRefused, Hash32, Script};
@@ -18,7 +18,7 @@ use std::alloc::Global;
 /// The first rule of witnesses that a block breaks, given whether witnesses are known where it stands, and the
 /// commitment to them in its coinbase.
 #[tactic(auto, unfolding(chain_model::specs::Rules::first_broken))]
-pub fn check_witness(
+pub(crate) fn check_witness(
     alloc: Global,
     known: bool,
     committed: Option<Hash32>,
@@ -37,7 +37,7 @@ pub fn check_witness(
     Ok(())
 }
 
-/// The rules of a block whose coinbase commits to the witnesses.
+// The rules of a block whose coinbase commits to the witnesses.
 #[tactic(auto, unfolding(chain_model::specs::Rules::first_broken))]
 fn check_commitment(alloc: Global, block: &Block, committed: Hash32) -> Result<(), CheckFault>
     ensures { Answers (first_broken (witness_rules true (Some committed) block.now)) result }
@@ -51,7 +51,7 @@ fn check_commitment(alloc: Global, block: &Block, committed: Hash32) -> Result<(
     Ok(())
 }
 
-/// The items of the first input's witness.
+// The items of the first input's witness.
 fn first_stack(txs: &[Tx]) -> &[Script]
     ensures { result.now ≡ first_stack_of txs.now }
 {
@@ -64,7 +64,7 @@ fn first_stack(txs: &[Tx]) -> &[Script]
     }
 }
 
-/// The one item of 32 bytes.
+// The one item of 32 bytes.
 fn nonce(stack: &[Script]) -> Option<&[u8]>
     ensures { option_copied result ≡ nonce_of stack.now }
 {

@@ -1,5 +1,5 @@
+mod Examples
 pub mod Ending
 pub mod Heights
 pub mod Making
 pub mod Nonces
-pub mod Targets

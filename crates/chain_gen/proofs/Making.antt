@@ -6,11 +6,13 @@ use Rattle.base_types.specs.declared.hash.Hash32.{Hash32}
 use Rattle.block_codec.specs.declared.block.Block.{Block}
 use Rattle.block_codec.specs.Text.{hash_of_header}
 use Rattle.io_traits.specs.Host.{Held, Grows, Spoils, Writes, ChangesOnly}
-use Rattle.io_traits.specs.HostRuns.{IsMade, IsMade-changes, IsMade-spoiled, made_grows}
-use Rattle.io_traits.specs.Told.{OnTold, OnTold-weaker, OnTold-then}
-use Rattle.chain_model.specs.Tree.{genesis_hash}
+use Rattle.io_traits.specs.HostRuns.{IsMade}
+use Rattle.io_traits.proofs.HostRuns.{IsMade-changes, IsMade-spoiled, made_grows}
+use Rattle.io_traits.specs.Told.{OnTold}
+use Rattle.io_traits.proofs.Told.{OnTold-weaker, OnTold-then}
+use Rattle.block_codec.specs.Genesis.{genesis_hash}
 use Rattle.chain_model.specs.Generated.{chain, block_at, and_next, and_block, tip_of, frame_text, file_text}
-use Rattle.chain_gen.specs.Chains.{blocks_of}
+use Rattle.chain_model.specs.Generated.{blocks_of}
 use Rattle.chain_gen.specs.declared.fault.GenFault.{GenFault}
 use Rattle.chain_gen.specs.declared.fault.GenFault.TheVariants.{NoMemory, HostFailed, NoNonce}
 use Rattle.chain_gen.specs.Blocks.{IsBlock}

@@ -1,11 +1,11 @@
 -- What making a chain gives, and what it leaves at the host.
-use Rattle.std.specs.Prelude.{◌≡◌, ℕ, List, Option, Some, Result, Ok, Err, IsOk, IsErr}
+use Rattle.std.specs.Prelude.{◌≡◌, ℕ, List, Some, Result, Ok, Err, IsOk, IsErr}
 use Rattle.base_types.specs.declared.hash.Hash32.{Hash32}
 use Rattle.block_codec.specs.declared.block.Block.{Block}
 use Rattle.io_traits.specs.Host.{Held, ChangesOnly}
 use Rattle.io_traits.specs.HostRuns.{IsMade, IsDone}
-use Rattle.chain_model.specs.Generated.{chain, tip_of}
-use Rattle.chain_gen.specs.Chains.{blocks_of}
+use Rattle.chain_model.specs.Generated.{tip_of}
+use Rattle.chain_model.specs.Generated.{blocks_of}
 use Rattle.chain_gen.specs.declared.fault.GenFault.{GenFault}
 use Rattle.chain_gen.specs.declared.fault.GenFault.TheVariants.{NoMemory, HostFailed, NoNonce}
 

@@ -10,18 +10,12 @@ ghost use Rattle.chain_gen.specs.Blocks.{IsBlock};
 use crate::fault::GenFault;
 use crate::mining::mine;
 use crate::transactions::txs_at;
-use base_types::Hash32;
-use block_codec::{Block, Header, write_block};
-use merkle::{root_in_place, txids};
+use base_types::{Hash32, MESSAGE_START, TARGET_BITS};
+use block_codec::{Block, GENESIS, Header, txids, write_block};
+use merkle::root_in_place;
 use std::alloc::{AllocError, Global};
 
-/// The message start of regtest (`pchMessageStart` in Bitcoin Core's `kernel/chainparams.cpp`).
-const MAGIC: [u8; 4] = [0xfa, 0xbf, 0xb5, 0xda];
-
-/// The time of genesis, in seconds since 1970.
-const GENESIS_TIME: u32 = 1_296_688_602;
-
-/// The seconds from one block to the next.
+// The seconds from one block to the next.
 const SPACING: u32 = 600;
 
 /// The block of a height over the previous block's hash, and its own hash.
@@ -41,8 +35,8 @@ pub(crate) fn block_at(
         version: 0x2000_0000,
         prev: *prev,
         root: root_in_place(hashes).hash,
-        time: GENESIS_TIME + SPACING * height,
-        bits: 0x207f_ffff,
+        time: GENESIS.time + SPACING * height,
+        bits: TARGET_BITS,
         nonce: 0,
     };
     match mine(&mut header) {
@@ -56,14 +50,14 @@ pub(crate) fn put_frame(frame: &mut Vec<u8>, block: &Block) -> Result<(), AllocE
     ensures { OnOk result (frame.new.items ≡ frame_text block.now) }
 {
     frame.clear();
-    frame.extend_from_slice(&MAGIC)?;
+    frame.extend_from_slice(&MESSAGE_START)?;
     frame.extend_from_slice(&[0; 4])?;
     write_block(frame, block)?;
     set_length(frame);
     Ok(())
 }
 
-/// Puts the length of what stands behind a frame's head into the head: its four lower bytes.
+// Puts the length of what stands behind a frame's head into the head: its four lower bytes.
 #[tactic(auto, unfolding(base_types::specs::Bytes::number_text))]
 fn set_length(frame: &mut [u8])
     requires { 8 ≤ length frame.old }

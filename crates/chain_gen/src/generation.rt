@@ -5,41 +5,18 @@ ghost use Rattle.io_traits.specs.Causes.{Rose};
 ghost use Rattle.io_traits.specs.Told.{OnTold};
 ghost use Rattle.io_traits.specs.Host.{Held, ChangesOnly};
 ghost use Rattle.io_traits.specs.HostRuns.{IsMade, IsDone};
-ghost use Rattle.chain_model.specs.Tree.{genesis_hash};
+ghost use Rattle.block_codec.specs.Genesis.{genesis_hash};
 ghost use Rattle.chain_model.specs.Generated.{chain, tip_of, file_text};
-ghost use Rattle.chain_gen.specs.Chains.{blocks_of};
+ghost use Rattle.chain_model.specs.Generated.{blocks_of};
 ghost use Rattle.chain_gen.specs.declared.fault.GenFault.TheVariants as fault;
 ghost use Rattle.chain_gen.specs.Made.{IsTip, Leaves, Ends};
 
 use crate::blocks::{block_at, put_frame};
 use crate::fault::GenFault;
 use base_types::Hash32;
-use block_codec::{Header, block_hash};
+use block_codec::genesis_hash;
 use io_traits::Host;
 use std::alloc::Global;
-
-/// The first header of regtest.
-const GENESIS: Header = Header {
-    version: 1,
-    prev: Hash32 { bytes: [0; 32] },
-    root: Hash32 {
-        bytes: [
-            0x3b, 0xa3, 0xed, 0xfd, 0x7a, 0x7b, 0x12, 0xb2, 0x7a, 0xc7, 0x2c, 0x3e, 0x67, 0x76,
-            0x8f, 0x61, 0x7f, 0xc8, 0x1b, 0xc3, 0x88, 0x8a, 0x51, 0x32, 0x3a, 0x9f, 0xb8, 0xaa,
-            0x4b, 0x1e, 0x5e, 0x4a,
-        ],
-    },
-    time: 1_296_688_602,
-    bits: 0x207f_ffff,
-    nonce: 2,
-};
-
-#[tactic(auto, unfolding(chain_model::specs::Tree::genesis_hash))]
-fn genesis() -> Hash32
-    ensures { result ≡ genesis_hash }
-{
-    block_hash(&GENESIS)
-}
 
 /// Writes the frames of the first `count` blocks over genesis that a number determines, and answers the last one's hash.
 /// The file is made anew, and ended whatever comes of it. `count` is from 1 to 100,000.
@@ -75,7 +52,7 @@ pub fn generate<H: Host>(
     made
 }
 
-/// Writes the frames to the created file, each as soon as its block is made.
+// Writes the frames to the created file, each as soon as its block is made.
 fn write_blocks<H: Host>(
     alloc: Global,
     host: &mut H,
@@ -89,7 +66,7 @@ fn write_blocks<H: Host>(
     ensures cause { IsErrOf result fault.HostFailed → Rose (H.faults host.old) (H.faults host.new) }
 {
     let mut frame = Vec::new(alloc);
-    let mut tip = genesis();
+    let mut tip = genesis_hash();
     for below in 0..count {
         let (block, hash) = block_at(alloc, number, &tip, below + 1)?;
         put_frame(&mut frame, &block)?;

@@ -10,10 +10,10 @@ use base_types::Script;
 use sha2::{Digest, Sha256};
 use std::alloc::{AllocError, Global};
 
-/// The most bytes of a script of a coinbase: a push of a height and one of a number.
+// The most bytes of a script of a coinbase: a push of a height and one of a number.
 const COINBASE_SCRIPT: usize = 13;
 
-/// The most bytes of a script that is paid to.
+// The most bytes of a script that is paid to.
 const LONGEST: usize = 35;
 
 #[tactic(auto, unfolding(base_types::specs::Bytes::number_text))]
@@ -26,7 +26,7 @@ fn seed(number: u64, height: u32) -> [u8; 32]
     hasher.finalize()
 }
 
-/// A script of three parts.
+// A script of three parts.
 fn joined(alloc: Global, front: &[u8], middle: &[u8], back: &[u8]) -> Result<Script, AllocError>
     ensures { IfOk result (λ script. script ≡ front.now ++ middle.now ++ back.now) }
 {
@@ -50,7 +50,7 @@ pub(crate) fn script_at(alloc: Global, number: u64, height: u32) -> Result<Scrip
     }
 }
 
-/// Adds the push of a height (BIP 34).
+// Adds the push of a height (BIP 34).
 fn push_height(bytes: &mut Vec<u8>, height: u32) -> Result<(), AllocError>
     requires { (1 ≤ height) × (height < 2 ^ 23) }
     ensures { OnOk result (bytes.new.items ≡ bytes.old.items ++ height_push height) }

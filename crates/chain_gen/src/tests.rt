@@ -6,7 +6,7 @@ use sha2::{Digest, Sha256};
 use std::alloc::Global;
 use std::test::Fail;
 
-/// A number and a count, the bytes of the file, the last block's hash as it is printed, and the SHA-256 of the file.
+// A number and a count, the bytes of the file, the last block's hash as it is printed, and the SHA-256 of the file.
 type Row = (u64, u32, usize, &'static str, &'static str);
 
 // By a generator of its own in Python, with hashlib.

@@ -1,36 +1,20 @@
 //! The transactions of a generated block.
 
 ghost use Rattle.std.specs.Prelude.{◌≡◌, ◌^◌, ◌<◌, ◌≤◌, [], ◌∷◌, ◌++◌, IfOk, OnOk};
-ghost use Rattle.chain_model.specs.Coins.{subsidy as subsidy_of};
 ghost use Rattle.chain_model.specs.Generated.{coinbase_at as coinbase_of, spend_at as spend_of, txs_at as txs_of};
 
 use crate::scripts::{coinbase_script, script_at};
-use base_types::{Hash32, OutPoint, Script, TxOut};
+use base_types::{COINBASE_MATURITY, Hash32, OutPoint, Script, TxOut, subsidy};
 use block_codec::{Inputs, Outputs, Stack, Tx, TxIn, Txs, txid};
 use std::alloc::{AllocError, Global};
 
-/// What the input of a coinbase names.
+// What the input of a coinbase names.
 const NOTHING: OutPoint = OutPoint {
     txid: Hash32 { bytes: [0; 32] },
     index: u32::MAX,
 };
 
-/// After how many blocks a coinbase is spent.
-const MATURITY: u32 = 100;
-
-/// The satoshis that a block at a height may pay beside its fees (`GetBlockSubsidy` in Bitcoin Core's `validation.cpp`).
-fn subsidy(height: u32) -> u64
-    ensures value { result ≡ subsidy_of height }
-    ensures small { result ≤ 5000000000 }
-{
-    let halvings = height / 150;
-    if halvings >= 64 {
-        return 0;
-    }
-    5_000_000_000 >> halvings
-}
-
-/// The one input of a transaction.
+// The one input of a transaction.
 fn inputs_of(alloc: Global, prev: OutPoint, script: Script) -> Result<Inputs, AllocError>
     ensures { IfOk result (λ inputs. inputs ≡ record { prev = prev; script = script; sequence = 0xffffffff; stack = [] } ∷ []) }
 {
@@ -63,18 +47,18 @@ fn coinbase_at(alloc: Global, number: u64, height: u32) -> Result<Tx, AllocError
     })
 }
 
-/// Spends the coinbase of a hundred blocks before, whose hash is made once more rather than kept.
+// Spends the coinbase of a hundred blocks before, whose hash is made once more rather than kept.
 fn spend_at(alloc: Global, number: u64, height: u32) -> Result<Tx, AllocError>
     requires { (101 ≤ height) × (height < 2 ^ 23) }
     ensures { IfOk result (λ tx. tx ≡ spend_of number height) }
 {
-    let coinbase = coinbase_at(alloc, number, height - MATURITY)?;
+    let coinbase = coinbase_at(alloc, number, height - COINBASE_MATURITY)?;
     let prev = OutPoint {
         txid: txid(&coinbase),
         index: 0,
     };
     let inputs = inputs_of(alloc, prev, Script::new(alloc))?;
-    let value = subsidy(height - MATURITY);
+    let value = subsidy(height - COINBASE_MATURITY);
     let mut outputs = Outputs::new(alloc);
     outputs.push(TxOut {
         value: (value / 2) as i64,
@@ -100,7 +84,7 @@ pub(crate) fn txs_at(alloc: Global, number: u64, height: u32) -> Result<Txs, All
 {
     let mut txs = Txs::new(alloc);
     txs.push(coinbase_at(alloc, number, height)?)?;
-    if height > MATURITY {
+    if height > COINBASE_MATURITY {
         txs.push(spend_at(alloc, number, height)?)?;
     }
     Ok(txs)

@@ -7,7 +7,8 @@ use Rattle.std.specs.Ordering.{eq_by_cmp, is_eq, is_lt}
 use Rattle.std.specs.FinMap as finite
 use Rattle.std.specs.FinMap.{get, find, insert, entries, entries_sorted, get-entries, get-insert, get-remove, same_map, is_sorted}
 use Rattle.std.specs.FinMap.Entries.{below_all}
-use Rattle.base_types.specs.Keys.{outpoint_cmp, outpoint_cmp_total, outpoint_cmp-IsAntisymmetric}
+use Rattle.base_types.specs.Keys.{outpoint_cmp}
+use Rattle.base_types.proofs.KeyOrders.{outpoint_cmp_total, outpoint_cmp-IsAntisymmetric}
 use Rattle.base_types.specs.Coins.{Coins}
 use Rattle.base_types.specs.declared.hash.OutPoint.{OutPoint}
 use Rattle.base_types.specs.declared.coin.Coin.{Coin}

@@ -13,7 +13,7 @@ use Rattle.std.specs.BTreeMap.{BTreeMap, is_at}
 use Rattle.std.specs.FinMap as finite
 use Rattle.std.specs.FinMap.{IsAntisymmetric, get, find, insert, remove, entries, from_entries, len, len-entries, len-empty, entries-insert, get-from_entries}
 use Rattle.std.specs.FinMap.Entries.{put, by_order}
-use Rattle.base_types.specs.OrderedMaps.{inserts, removes}
+use Rattle.base_types.proofs.OrderedMaps.{inserts, removes}
 
 module _ {K V : Type 0} (R : K → K → Ordering) where
   pub find_lookup : (q : K) (es : List (K × V)) → find R q es ≡ lookup (is_at (R q)) es

@@ -6,7 +6,8 @@ use Rattle.std.specs.FinMap.{get, len, contains_key}
 use Rattle.base_types.specs.declared.hash.Hash32.{Hash32}
 use Rattle.block_codec.specs.declared.block.Header.{Header}
 use Rattle.block_codec.specs.Text.{same_hash}
-use Rattle.chain_model.specs.Tree.{Headers, genesis_hash, and_below, chain_within, height, among, rising, median, time, median_time, of_member}
+use Rattle.chain_model.specs.Tree.{Headers, and_below, chain_within, height, among, rising, median, time, median_time, of_member}
+use Rattle.block_codec.specs.Genesis.{genesis_hash}
 
 none : {A : Type 0} (o : Option A) → is_some o ≡ false → o ≡ None
 none None e = refl

@@ -6,17 +6,15 @@ use Rattle.std.proofs.lemmas.List.Sums.{sum_by-cons}
 use Rattle.std.proofs.lemmas.Bool.Decides.{nat_tests}
 use Rattle.std.specs.FinMap.{get}
 use Rattle.base_types.specs.Coins.{Coins}
-use Rattle.base_types.specs.declared.hash.Hash32.{Hash32}
 use Rattle.base_types.specs.declared.coin.Coin.{Coin}
 use Rattle.base_types.specs.declared.refused.CoinRefused.{CoinRefused}
 use Rattle.base_types.specs.declared.refused.CoinRefused.TheVariants.{Immature, ValueRange, InBelowOut, SequenceLock}
 use Rattle.block_codec.specs.declared.block.TxIn.{TxIn}
 use Rattle.block_codec.specs.declared.block.Tx.{Tx}
-use Rattle.chain_model.specs.Tree.{Tree}
 use Rattle.chain_model.specs.Rules.{first_broken, first_some}
-use Rattle.chain_model.specs.BodyRules.{max_money}
+use Rattle.base_types.specs.Parameters.{max_money}
 use Rattle.chain_model.specs.Coins.{and_coins, spent_by, value_of_coins, value_of_outputs}
-use Rattle.chain_model.specs.Apply.{unless, is_immature, coins_broken, fee, is_locked, spending_broken}
+use Rattle.chain_model.specs.Apply.{Position, unless, is_immature, coins_broken, fee, is_locked, spending_broken}
 use Rattle.chain_model.specs.Fees.{fees_by}
 use Rattle.chain_model.specs.Seen.{seen}
 
@@ -123,19 +121,19 @@ same_sums fees paid_in paid_out in_coins in_outputs ins outs small =
 ok : ℕ → Result ℕ CoinRefused
 ok n = Ok n
 
-module _ (tree : Tree) (parent : Hash32) (at fees : ℕ) (tx : Tx) (coins : List Coin) where
-  by_rule : (rule : CoinRefused) → spending_broken tree parent at fees tx coins ≡ Some rule → fees_by tree parent at fees tx coins ≡ Err rule
+module _ (position : Position) (fees : ℕ) (tx : Tx) (coins : List Coin) where
+  by_rule : (rule : CoinRefused) → spending_broken position fees tx coins ≡ Some rule → fees_by position fees tx coins ≡ Err rule
   by_rule rule e = ap (λ (o : Option CoinRefused). unless o (fees + fee tx coins)) e
 
-  first_refused : (rule : CoinRefused) → coins_broken at 0 coins ≡ Some rule → spending_broken tree parent at fees tx coins ≡ Some rule
+  first_refused : (rule : CoinRefused) → coins_broken position.at 0 coins ≡ Some rule → spending_broken position fees tx coins ≡ Some rule
   unfolding first_some
   first_refused rule e = rw e refl
 
-  pub coins_refused : (rule : CoinRefused) → coins_broken at 0 coins ≡ Some rule → fees_by tree parent at fees tx coins ≡ Err rule
+  pub coins_refused : (rule : CoinRefused) → coins_broken position.at 0 coins ≡ Some rule → fees_by position fees tx coins ≡ Err rule
   coins_refused rule e = by_rule rule (first_refused rule e)
 
-  module _ (fine : coins_broken at 0 coins ≡ None) where
-    passed : spending_broken tree parent at fees tx coins ≡ first_broken ((nat_lt (value_of_coins coins) (value_of_outputs tx.outputs), InBelowOut) ∷ (nat_lt max_money (fees + fee tx coins), ValueRange) ∷ (is_locked tree parent at tx coins, SequenceLock) ∷ [])
+  module _ (fine : coins_broken position.at 0 coins ≡ None) where
+    passed : spending_broken position fees tx coins ≡ first_broken ((nat_lt (value_of_coins coins) (value_of_outputs tx.outputs), InBelowOut) ∷ (nat_lt max_money (fees + fee tx coins), ValueRange) ∷ (is_locked position tx coins, SequenceLock) ∷ [])
     unfolding first_some
     passed = rw fine (only _)
 
@@ -162,18 +160,18 @@ module _ (tree : Tree) (parent : Hash32) (at fees : ℕ) (tx : Tx) (coins : List
       as_summed : unless (first_broken (sums fees paid_in paid_out)) (fees + (paid_in - paid_out)) ≡ unless (first_broken (sums fees (value_of_coins coins) (value_of_outputs tx.outputs))) (fees + fee tx coins)
       as_summed = same_sums fees paid_in paid_out (value_of_coins coins) (value_of_outputs tx.outputs) ins outs small
 
-      pub sums_refused : (rule : CoinRefused) → Err rule ≡ unless (first_broken (sums fees paid_in paid_out)) (fees + (paid_in - paid_out)) → Err rule ≡ fees_by tree parent at fees tx coins
-      sums_refused rule e = sym (by_rule rule (passed ∙ refuses _ _ (is_locked tree parent at tx coins) (fees + fee tx coins) rule (sym (e ∙ as_summed))))
+      pub sums_refused : (rule : CoinRefused) → Err rule ≡ unless (first_broken (sums fees paid_in paid_out)) (fees + (paid_in - paid_out)) → Err rule ≡ fees_by position fees tx coins
+      sums_refused rule e = sym (by_rule rule (passed ∙ refuses _ _ (is_locked position tx coins) (fees + fee tx coins) rule (sym (e ∙ as_summed))))
 
       module _ (after : ℕ) (fits : Ok after ≡ unless (first_broken (sums fees paid_in paid_out)) (fees + (paid_in - paid_out))) where
-        locks : spending_broken tree parent at fees tx coins ≡ first_broken ((is_locked tree parent at tx coins, SequenceLock) ∷ [])
-        locks = passed ∙ passes _ _ (is_locked tree parent at tx coins) (fees + fee tx coins) after (sym (fits ∙ as_summed))
+        locks : spending_broken position fees tx coins ≡ first_broken ((is_locked position tx coins, SequenceLock) ∷ [])
+        locks = passed ∙ passes _ _ (is_locked position tx coins) (fees + fee tx coins) after (sym (fits ∙ as_summed))
 
-        pub lock_refused : is_locked tree parent at tx coins ≡ true → Err SequenceLock ≡ fees_by tree parent at fees tx coins
+        pub lock_refused : is_locked position tx coins ≡ true → Err SequenceLock ≡ fees_by position fees tx coins
         unfolding first_broken
         lock_refused e = sym (by_rule SequenceLock (locks ∙ ap (λ (b : Bool). first_broken ((b, SequenceLock) ∷ [])) e))
 
-        pub spending_fine : is_locked tree parent at tx coins ≡ false → Ok after ≡ fees_by tree parent at fees tx coins
+        pub spending_fine : is_locked position tx coins ≡ false → Ok after ≡ fees_by position fees tx coins
         unfolding first_broken ok
         spending_fine e = sym (
             ap (λ (o : Option CoinRefused). unless o (fees + fee tx coins)) (locks ∙ ap (λ (b : Bool). first_broken ((b, SequenceLock) ∷ [])) e)

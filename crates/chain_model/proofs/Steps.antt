@@ -9,10 +9,10 @@ use Rattle.base_types.specs.declared.hash.Hash32.{Hash32}
 use Rattle.base_types.specs.declared.refused.CoinRefused.{CoinRefused}
 use Rattle.base_types.specs.declared.refused.CoinRefused.TheVariants.{Bip30, CoinbaseAmount}
 use Rattle.block_codec.specs.declared.block.Tx.{Tx}
-use Rattle.chain_model.specs.Tree.{Tree}
-use Rattle.chain_model.specs.BodyRules.{max_money}
-use Rattle.chain_model.specs.Coins.{with_outputs, value_of_outputs, subsidy}
-use Rattle.chain_model.specs.Apply.{Paid, after_tx, after_txs, after_all, overwrites, rewarded}
+use Rattle.base_types.specs.Parameters.{max_money}
+use Rattle.chain_model.specs.Coins.{with_outputs, value_of_outputs}
+use Rattle.base_types.specs.Parameters.{subsidy}
+use Rattle.chain_model.specs.Apply.{Position, Paid, after_tx, after_txs, after_all, overwrites, rewarded}
 use Rattle.chain_model.specs.declared.fault.ApplyFault.{ApplyFault}
 use Rattle.chain_model.specs.declared.fault.ApplyFault.TheVariants.{NoMemory, Refused}
 use Rattle.chain_model.specs.Answers.{Refuses, outcome_of}
@@ -38,20 +38,20 @@ same_refusal A a b fault e refused = subst (λ (r : Result A CoinRefused). Refus
 
 -- ---- transaction by transaction
 
-module _ (tree : Tree) (parent : Hash32) (at : ℕ) (paid : Paid) (tx : Tx) (txs : List Tx) where
-  pub tx_refused : (fault : ApplyFault) → Refuses (after_tx tree parent at paid tx) fault → Refuses (after_txs tree parent at paid (tx ∷ txs)) fault
+module _ (position : Position) (paid : Paid) (tx : Tx) (txs : List Tx) where
+  pub tx_refused : (fault : ApplyFault) → Refuses (after_tx position paid tx) fault → Refuses (after_txs position paid (tx ∷ txs)) fault
   unfolding after_txs
-  tx_refused fault refused = refused_by Paid Paid (after_tx tree parent at paid tx) (λ next. after_txs tree parent at next txs) fault refused
+  tx_refused fault refused = refused_by Paid Paid (after_tx position paid tx) (λ next. after_txs position next txs) fault refused
 
-  pub tx_paid : (next : Paid) → after_tx tree parent at paid tx ≡ Ok next → after_txs tree parent at paid (tx ∷ txs) ≡ after_txs tree parent at next txs
+  pub tx_paid : (next : Paid) → after_tx position paid tx ≡ Ok next → after_txs position paid (tx ∷ txs) ≡ after_txs position next txs
   unfolding after_txs
-  tx_paid next e = ap (λ (r : Result Paid CoinRefused). r >>= (λ after. after_txs tree parent at after txs)) e
+  tx_paid next e = ap (λ (r : Result Paid CoinRefused). r >>= (λ after. after_txs position after txs)) e
 
-pub all_paid : (tree : Tree) (parent : Hash32) (at : ℕ) (paid : Paid) (txs : List Tx) → txs ≡ [] → after_txs tree parent at paid txs ≡ Ok paid
+pub all_paid : (position : Position) (paid : Paid) (txs : List Tx) → txs ≡ [] → after_txs position paid txs ≡ Ok paid
 unfolding after_txs
-all_paid tree parent at paid txs e = ap (λ (rest : List Tx). after_txs tree parent at paid rest) e
+all_paid position paid txs e = ap (λ (rest : List Tx). after_txs position paid rest) e
 
--- what is left of transactions and their hashes ends at once
+-- what is left of transactions and their hashes ends position.at once
 pub both_end : (f : Tx → Hash32) (txs : List Tx) (txids : List Hash32) → txids ≡ map f txs → (txs ≡ []) ⊎ (txids ≡ []) → txs ≡ []
 both_end f txs txids e (inl done) = done
 both_end f txs txids e (inr done) = nil_from_length txs (sym (length-map txs f) ∙ ap length (sym e ∙ done))
@@ -65,40 +65,40 @@ first_and_rest (tx ∷ txs) first h is = ap (λ (t : Tx). t ∷ txs) (sym is) �
 ok : Coins → Result Coins CoinRefused
 ok coins = Ok coins
 
-module _ (tree : Tree) (parent : Hash32) (at : ℕ) (coins : Coins) (txs : List Tx) (new : overwrites coins txs ≡ false) where
-  not_overwritten : outcome_of tree parent at coins txs ≡ after_all tree parent at coins txs
-  not_overwritten = ap (λ (b : Bool). cond b (Err Bip30) (after_all tree parent at coins txs)) new
+module _ (position : Position) (coins : Coins) (txs : List Tx) (new : overwrites coins txs ≡ false) where
+  not_overwritten : outcome_of position coins txs ≡ after_all position coins txs
+  not_overwritten = ap (λ (b : Bool). cond b (Err Bip30) (after_all position coins txs)) new
 
-  pub without_txs : (left : Coins) → left ≡ coins → length txs < 1 → outcome_of tree parent at coins txs ≡ Ok left
+  pub without_txs : (left : Coins) → left ≡ coins → length txs < 1 → outcome_of position coins txs ≡ Ok left
   unfolding ok
-  without_txs left same h = not_overwritten ∙ ap (λ (rest : List Tx). after_all tree parent at coins rest) (nil_from_length txs (omega arith)) ∙ ap ok (sym same)
+  without_txs left same h = not_overwritten ∙ ap (λ (rest : List Tx). after_all position coins rest) (nil_from_length txs (omega arith)) ∙ ap ok (sym same)
 
-  module _ (coinbase : Tx) (others : List Tx) (split : txs ≡ coinbase ∷ others) (start : Coins) (entered : start ≡ with_outputs at coinbase coins) where
-    from_coinbase : outcome_of tree parent at coins txs ≡ (after_txs tree parent at (record { coins = start; fees = 0 }) others >>= rewarded at coinbase)
+  module _ (coinbase : Tx) (others : List Tx) (split : txs ≡ coinbase ∷ others) (start : Coins) (entered : start ≡ with_outputs position.at coinbase coins) where
+    from_coinbase : outcome_of position coins txs ≡ (after_txs position (record { coins = start; fees = 0 }) others >>= rewarded position.at coinbase)
     from_coinbase =
         not_overwritten
-        ∙ ap (λ (all : List Tx). after_all tree parent at coins all) split
-        ∙ ap (λ (first : Coins). after_txs tree parent at (record { coins = first; fees = 0 }) others >>= rewarded at coinbase) (sym entered)
+        ∙ ap (λ (all : List Tx). after_all position coins all) split
+        ∙ ap (λ (first : Coins). after_txs position (record { coins = first; fees = 0 }) others >>= rewarded position.at coinbase) (sym entered)
 
-    pub others_refused : (fault : ApplyFault) → Refuses (after_txs tree parent at (record { coins = start; fees = 0 }) others) fault → Refuses (outcome_of tree parent at coins txs) fault
+    pub others_refused : (fault : ApplyFault) → Refuses (after_txs position (record { coins = start; fees = 0 }) others) fault → Refuses (outcome_of position coins txs) fault
     others_refused fault refused =
-        same_refusal Coins (after_txs tree parent at (record { coins = start; fees = 0 }) others >>= rewarded at coinbase) (outcome_of tree parent at coins txs) fault from_coinbase
-        (refused_by Paid Coins (after_txs tree parent at (record { coins = start; fees = 0 }) others) (rewarded at coinbase) fault refused)
+        same_refusal Coins (after_txs position (record { coins = start; fees = 0 }) others >>= rewarded position.at coinbase) (outcome_of position coins txs) fault from_coinbase
+        (refused_by Paid Coins (after_txs position (record { coins = start; fees = 0 }) others) (rewarded position.at coinbase) fault refused)
 
-    module _ (after : Coins) (fees : ℕ) (all : after_txs tree parent at (record { coins = start; fees = 0 }) others ≡ Ok (record { coins = after; fees = fees })) where
-      to_reward : outcome_of tree parent at coins txs ≡ rewarded at coinbase (record { coins = after; fees = fees })
-      to_reward = from_coinbase ∙ ap (λ (r : Result Paid CoinRefused). r >>= rewarded at coinbase) all
+    module _ (after : Coins) (fees : ℕ) (all : after_txs position (record { coins = start; fees = 0 }) others ≡ Ok (record { coins = after; fees = fees })) where
+      to_reward : outcome_of position coins txs ≡ rewarded position.at coinbase (record { coins = after; fees = fees })
+      to_reward = from_coinbase ∙ ap (λ (r : Result Paid CoinRefused). r >>= rewarded position.at coinbase) all
 
-      by_test : (b : Bool) → nat_lt (fees + subsidy at) (value_of_outputs coinbase.outputs) ≡ b → outcome_of tree parent at coins txs ≡ cond b (Err CoinbaseAmount) (Ok after)
+      by_test : (b : Bool) → nat_lt (fees + subsidy position.at) (value_of_outputs coinbase.outputs) ≡ b → outcome_of position coins txs ≡ cond b (Err CoinbaseAmount) (Ok after)
       by_test b e = to_reward ∙ ap (λ (t : Bool). cond t (Err CoinbaseAmount) (Ok after)) e
 
-      module _ (sum reward : ℕ) (outs : sum ≡ min (value_of_outputs coinbase.outputs) (2 ^ 64 - 1)) (allowed : reward ≡ subsidy at) (small : reward ≤ 5000000000) (in_range : fees ≤ max_money) where
-        pub too_much : fees + reward < sum → outcome_of tree parent at coins txs ≡ Err CoinbaseAmount
+      module _ (sum reward : ℕ) (outs : sum ≡ min (value_of_outputs coinbase.outputs) (2 ^ 64 - 1)) (allowed : reward ≡ subsidy position.at) (small : reward ≤ 5000000000) (in_range : fees ≤ max_money) where
+        pub too_much : fees + reward < sum → outcome_of position coins txs ≡ Err CoinbaseAmount
         too_much h =
             let more : fees + reward < value_of_outputs coinbase.outputs = omega arith in
             by_test true (ap (λ (n : ℕ). nat_lt (fees + n) (value_of_outputs coinbase.outputs)) (sym allowed) ∙ grind (arith, nat_tests))
 
-        pub not_too_much : sum ≤ fees + reward → outcome_of tree parent at coins txs ≡ Ok after
+        pub not_too_much : sum ≤ fees + reward → outcome_of position coins txs ≡ Ok after
         not_too_much h =
             let no_more : value_of_outputs coinbase.outputs ≤ fees + reward = omega arith in
             by_test false (ap (λ (n : ℕ). nat_lt (fees + n) (value_of_outputs coinbase.outputs)) (sym allowed) ∙ grind (arith, nat_tests))

@@ -13,7 +13,8 @@ use Rattle.std.specs.FinMap.{get, insert, remove, entries, entries_sorted, get-e
 use Rattle.std.specs.FinMap.Entries.{put, by_order, below_all}
 use Rattle.std.proofs.lemmas.Map.Entries.{sum_by-insert_entry}
 use Rattle.std.proofs.lemmas.List.Sums.{sum_by-cons}
-use Rattle.base_types.specs.Keys.{outpoint_cmp, outpoint_cmp_total, outpoint_cmp-IsAntisymmetric}
+use Rattle.base_types.specs.Keys.{outpoint_cmp}
+use Rattle.base_types.proofs.KeyOrders.{outpoint_cmp_total, outpoint_cmp-IsAntisymmetric}
 use Rattle.base_types.specs.Coins.{Coins}
 use Rattle.base_types.specs.declared.hash.Hash32.{Hash32}
 use Rattle.base_types.specs.declared.hash.OutPoint.{OutPoint}
@@ -24,7 +25,7 @@ use Rattle.block_codec.specs.declared.block.Tx.{Tx}
 use Rattle.chain_model.specs.BodyRules.{same_outpoint, has_twin_inputs}
 use Rattle.chain_model.specs.Coins.{is_spendable, output_value, numbered, coin_of, without, and_coins, spent_by, value_of_coins, value_of_outputs}
 use Rattle.chain_model.specs.Laws.{value_of_all}
-use Rattle.chain_model.specs.OutPoints.{tied_outpoints}
+use Rattle.chain_model.proofs.OutPoints.{tied_outpoints}
 use Rattle.chain_model.proofs.Changing.{both_true, tied}
 use Rattle.chain_model.proofs.Entries.{find_lookup}
 

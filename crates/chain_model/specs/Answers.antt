@@ -1,5 +1,5 @@
 -- What a step of a replay answers.
-use Rattle.std.specs.Prelude.{◌≡◌, ⊤, ℕ, List, cond}
+use Rattle.std.specs.Prelude.{◌≡◌, ⊤, List, cond}
 use Rattle.std.specs.declared.result.Result.{Result}
 use Rattle.std.specs.declared.result.Result.TheVariants.{Ok, Err}
 use Rattle.base_types.specs.Coins.{Coins}
@@ -7,8 +7,7 @@ use Rattle.base_types.specs.declared.hash.Hash32.{Hash32}
 use Rattle.base_types.specs.declared.refused.CoinRefused.{CoinRefused}
 use Rattle.base_types.specs.declared.refused.CoinRefused.TheVariants.{Bip30}
 use Rattle.block_codec.specs.declared.block.Tx.{Tx}
-use Rattle.chain_model.specs.Tree.{Tree}
-use Rattle.chain_model.specs.Apply.{overwrites, after_all}
+use Rattle.chain_model.specs.Apply.{Position, overwrites, after_all}
 use Rattle.chain_model.specs.declared.fault.ApplyFault.{ApplyFault}
 use Rattle.chain_model.specs.declared.fault.ApplyFault.TheVariants.{NoMemory, Refused}
 use Rattle.chain_model.specs.declared.fault.ReplayFault.{ReplayFault}
@@ -24,9 +23,9 @@ abbrev pub Answers : {A : Type 0} → Result A CoinRefused → Result A ApplyFau
 Answers meant (Ok a) = meant ≡ Ok a
 Answers meant (Err fault) = Refuses meant fault
 
--- the coins after the transactions of a block that stands below a parent, at a height, or the first rule that they break
-abbrev pub outcome_of : Tree → Hash32 → ℕ → Coins → List Tx → Result Coins CoinRefused
-outcome_of tree parent at coins txs = cond (overwrites coins txs) (Err Bip30) (after_all tree parent at coins txs)
+-- the coins after the transactions of a block at a position, or the first rule that they break
+abbrev pub outcome_of : Position → Coins → List Tx → Result Coins CoinRefused
+outcome_of position coins txs = cond (overwrites coins txs) (Err Bip30) (after_all position coins txs)
 
 -- what is said of the block and the rule of a refusal
 abbrev pub OnRefused : {A : Type 0} → Result A ReplayFault → (Hash32 → CoinRefused → Type 0) → Type 0

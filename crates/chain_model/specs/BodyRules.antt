@@ -1,8 +1,9 @@
 -- The rules of bodies.
-use Rattle.std.specs.Prelude.{ℕ, zero, suc, ◌+◌, ◌*◌, ◌/◌, ◌%◌, ℤ, pos, negsuc, ◌+ℤ◌, Bool, true, false, not, ◌&&◌, ◌||◌, ◌==◌, List, [], ◌∷◌, length, drop, map, nat_lt, nat_le, nat_eq, is_some, cond}
+use Rattle.std.specs.Prelude.{ℕ, zero, suc, ◌+◌, ◌*◌, ◌/◌, ◌%◌, ℤ, pos, negsuc, ◌+ℤ◌, Bool, true, false, not, ◌&&◌, ◌||◌, ◌==◌, List, [], ◌∷◌, ◌++◌, length, drop, map, nat_lt, nat_le, nat_eq, is_some, cond}
 use Rattle.std.specs.declared.option.Option.{Option}
 use Rattle.std.specs.declared.option.Option.TheVariants.{Some, None}
 use Rattle.std.specs.List.{list_any, list_all, starts_with}
+use Rattle.base_types.specs.Parameters.{max_money}
 use Rattle.base_types.specs.declared.hash.Hash32.{Hash32}
 use Rattle.base_types.specs.declared.hash.OutPoint.{OutPoint}
 use Rattle.base_types.specs.declared.coin.TxOut.{TxOut}
@@ -24,9 +25,6 @@ pub record Place : Type 0 where
   pub at : ℕ
   pub median : ℕ
   pub rules : Rules
-
-abbrev pub max_money : ℕ
-max_money = 2100000000000000
 
 -- ---- one transaction
 
@@ -148,25 +146,57 @@ starts_with_coinbase (tx ∷ txs) = is_coinbase tx
 abbrev pub knows_witnesses : Place → Bool
 knows_witnesses place = nat_le place.rules.segwit place.at
 
+-- ---- the rules in groups, each in its order
+
+-- rules, each with whether it is broken
+abbrev pub RuleList : Type 0
+RuleList = List (Bool × BodyRefused)
+
+-- there is no transaction, or the block or the number of its transactions is too large
+abbrev pub is_too_large : Block → Bool
+is_too_large block = (length block.txs == 0) || nat_lt 4000000 (4 * stripped_size_of block) || nat_lt 4000000 (4 * length block.txs)
+
+-- root, size and coinbase
+abbrev pub structure_rules : Block → RuleList
+structure_rules block =
+    (not (same_hash (merkle_root (map txid_of block.txs)) block.header.root), BadMerkle) ∷
+    (is_mutated (map txid_of block.txs), Mutated) ∷
+    (is_too_large block, TooLarge) ∷
+    (not (starts_with_coinbase block.txs), FirstNotCoinbase) ∷
+    (list_any is_coinbase (others_of block.txs), SecondCoinbase) ∷
+    []
+
+-- some transaction isn't final
+abbrev pub has_unfinal : Place → Block → Bool
+has_unfinal place block = list_any (λ tx. not (is_final place block tx)) block.txs
+
+-- the coinbase's script has to begin with the height, and doesn't
+abbrev pub has_bad_height : Place → Block → Bool
+has_bad_height place block = nat_le place.rules.bip34 place.at && not (starts_with nat_eq (first_script block.txs) (height_push place.at))
+
+-- witnesses, by whether they are known and by the commitment to them
+abbrev pub witness_rules : Bool → Option Hash32 → Block → RuleList
+witness_rules known committed block =
+    (known && has_bad_nonce committed (first_stack block.txs), WitnessNonce) ∷
+    (known && commits_wrongly block committed (nonce_of (first_stack block.txs)), WitnessCommitment) ∷
+    ((not known || is_none_of committed) && list_any has_witness block.txs, UnexpectedWitness) ∷
+    []
+
+-- those that ask where the block stands, and the weight
+abbrev pub place_rules : Place → Block → RuleList
+place_rules place block =
+    (has_unfinal place block, NotFinal) ∷
+    (has_bad_height place block, BadHeight) ∷
+    witness_rules (knows_witnesses place) (commitment_of block) block ++
+    (nat_lt 4000000 (weight_of block), Weight) ∷
+    []
+
 -- the first rule that a block's body breaks
 unfoldable pub body_broken : Place → Block → Option BodyRefused
 body_broken place block = first_some (
-    first_broken (
-    (not (same_hash (merkle_root (map txid_of block.txs)) block.header.root), BadMerkle) ∷
-    (is_mutated (map txid_of block.txs), Mutated) ∷
-    ((length block.txs == 0) || nat_lt 4000000 (4 * stripped_size_of block) || nat_lt 4000000 (4 * length block.txs), TooLarge) ∷
-    (not (starts_with_coinbase block.txs), FirstNotCoinbase) ∷
-    (list_any is_coinbase (others_of block.txs), SecondCoinbase) ∷
-    []) ∷
+    first_broken (structure_rules block) ∷
     first_some (map tx_broken block.txs) ∷
-    first_broken (
-    (list_any (λ tx. not (is_final place block tx)) block.txs, NotFinal) ∷
-    (nat_le place.rules.bip34 place.at && not (starts_with nat_eq (first_script block.txs) (height_push place.at)), BadHeight) ∷
-    (knows_witnesses place && has_bad_nonce (commitment_of block) (first_stack block.txs), WitnessNonce) ∷
-    (knows_witnesses place && commits_wrongly block (commitment_of block) (nonce_of (first_stack block.txs)), WitnessCommitment) ∷
-    ((not (knows_witnesses place) || is_none_of (commitment_of block)) && list_any has_witness block.txs, UnexpectedWitness) ∷
-    (nat_lt 4000000 (weight_of block), Weight) ∷
-    []) ∷
+    first_broken (place_rules place block) ∷
     [])
 
 -- where a block stands whose parent is in the tree

@@ -1,5 +1,5 @@
 -- Which block a chainstate moves to: all candidates are compared by their replays.
-use Rattle.std.specs.Prelude.{ℕ, Bool, true, false, not, ◌&&◌, ◌||◌, ◌==◌, List, [], ◌∷◌, map, filter, fold, min, nat_lt, nat_le, is_some, cond, unwrap_or}
+use Rattle.std.specs.Prelude.{ℕ, Bool, false, ◌&&◌, ◌||◌, ◌==◌, List, [], ◌∷◌, map, filter, fold, min, nat_lt, nat_le, is_some, cond, unwrap_or}
 use Rattle.std.specs.declared.option.Option.{Option}
 use Rattle.std.specs.declared.option.Option.TheVariants.{Some, None}
 use Rattle.std.specs.declared.result.Result.{Result}
@@ -45,12 +45,12 @@ blocks_of bodies [] = Some []
 blocks_of bodies (hash ∷ hashes) = and_block (get bodies hash) (blocks_of bodies hashes)
 
 -- a block is an ancestor of another, or it
-abbrev pub is_at_or_above : Headers → Hash32 → Hash32 → Bool
-is_at_or_above headers low high = list_any (same_hash low) (chain headers high)
+abbrev pub is_at_or_below : Headers → Hash32 → Hash32 → Bool
+is_at_or_below headers low high = list_any (same_hash low) (chain headers high)
 
 -- the blocks after the start up to a block that is at or above it, if all are stored
 abbrev pub blocks_to : Choice → Hash32 → Option (List Block)
-blocks_to choice hash = cond (is_at_or_above choice.tree.headers choice.start hash) (blocks_of choice.bodies (path choice.tree.headers choice.start hash)) None
+blocks_to choice hash = cond (is_at_or_below choice.tree.headers choice.start hash) (blocks_of choice.bodies (path choice.tree.headers choice.start hash)) None
 
 abbrev pub is_complete : Choice → Hash32 → Bool
 is_complete choice hash = is_some (blocks_to choice hash)
@@ -126,7 +126,7 @@ and_tried hash (Some refused) others = record { blocks = hash ∷ (others refuse
 unfoldable pub tried_of : Choice → List Hash32 → List Hash32 → Tried
 tried_of choice refused [] = no_trial
 tried_of choice refused (hash ∷ hashes) =
-    cond (list_any (λ block. is_at_or_above choice.tree.headers block hash) refused) (tried_of choice refused hashes)
+    cond (list_any (λ block. is_at_or_below choice.tree.headers block hash) refused) (tried_of choice refused hashes)
     (and_tried hash (refused_below choice hash) (λ more. tried_of choice (more ∷ refused) hashes))
 
 -- what a move tries, where these blocks were refused before it
@@ -147,9 +147,14 @@ fork_height choice hash = option_map_or (height choice.tree.headers) (fork choic
 abbrev pub lowest_fork : Choice → List Hash32 → ℕ
 lowest_fork choice hashes = fold (λ least hash. min least (fork_height choice hash)) (height choice.tree.headers choice.tip) hashes
 
--- a block lies on the way of a move: it is the old tip, or a tried block, or an ancestor of one of them, and not below the
--- lowest fork
+-- a block lies on the way to these blocks: it is the old tip, or one of them, or an ancestor of one, and not below the lowest
+-- fork; where there are none, the way is empty
+abbrev pub is_on_way_to : Choice → List Hash32 → Hash32 → Bool
+is_on_way_to choice [] hash = false
+is_on_way_to choice (trial ∷ trials) hash =
+    list_any (is_at_or_below choice.tree.headers hash) (choice.tip ∷ trial ∷ trials)
+    && nat_le (lowest_fork choice (trial ∷ trials)) (height choice.tree.headers hash)
+
+-- a block lies on the way of a move, which goes to the blocks that it tries
 abbrev pub is_on_way : Choice → List Hash32 → Hash32 → Bool
-is_on_way choice refused hash =
-    list_any (is_at_or_above choice.tree.headers hash) (choice.tip ∷ tried choice refused)
-    && nat_le (lowest_fork choice (tried choice refused)) (height choice.tree.headers hash)
+is_on_way choice refused hash = is_on_way_to choice (tried choice refused) hash

@@ -1,10 +1,11 @@
 -- What the transactions of a block do to coins.
-use Rattle.std.specs.Prelude.{ℕ, suc, ◌/◌, ◌^◌, ℤ, pos, negsuc, Bool, not, ◌||◌, List, [], ◌∷◌, length, filter, fold, sum_by, nat_lt, nat_le, nat_eq, cond}
+use Rattle.std.specs.Prelude.{ℕ, suc, ℤ, pos, negsuc, Bool, not, ◌||◌, List, [], ◌∷◌, length, filter, fold, sum_by, nat_lt, nat_eq}
 use Rattle.std.specs.declared.option.Option.{Option}
 use Rattle.std.specs.declared.option.Option.TheVariants.{Some, None}
 use Rattle.std.specs.List.{starts_with}
 use Rattle.std.specs.FinMap.{get, insert, remove}
 use Rattle.base_types.specs.Coins.{Coins}
+use Rattle.base_types.specs.Parameters.{max_script_size}
 use Rattle.base_types.specs.declared.hash.Hash32.{Hash32}
 use Rattle.base_types.specs.declared.hash.OutPoint.{OutPoint}
 use Rattle.base_types.specs.declared.coin.Coin.{Coin}
@@ -13,9 +14,9 @@ use Rattle.block_codec.specs.declared.block.TxIn.{TxIn}
 use Rattle.block_codec.specs.declared.block.Tx.{Tx}
 use Rattle.block_codec.specs.Text.{txid_of, is_coinbase}
 
--- an output can be spent, unless its script begins with OP_RETURN or is longer than 10,000 bytes
+-- an output can be spent, unless its script begins with OP_RETURN or is too long
 abbrev pub is_spendable : TxOut → Bool
-is_spendable output = not (starts_with nat_eq output.script (0x6a ∷ []) || nat_lt 10000 (length output.script))
+is_spendable output = not (starts_with nat_eq output.script (0x6a ∷ []) || nat_lt max_script_size (length output.script))
 
 -- satoshis; a block whose body meets the rules has no value below 0
 abbrev pub satoshis : ℤ → ℕ
@@ -65,7 +66,3 @@ value_of_coins coins = sum_by (λ coin. coin.value) coins
 
 abbrev pub value_of_outputs : List TxOut → ℕ
 value_of_outputs outputs = sum_by output_value outputs
-
--- what a block at a height may pay beside its fees: 50 coins, halved every 150 blocks
-abbrev pub subsidy : ℕ → ℕ
-subsidy at = cond (nat_le 64 (at / 150)) 0 (5000000000 / 2 ^ (at / 150))

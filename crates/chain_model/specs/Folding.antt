@@ -13,7 +13,8 @@ use Rattle.base_types.specs.declared.refused.BodyRefused.{BodyRefused}
 use Rattle.base_types.specs.declared.refused.CoinRefused.{CoinRefused}
 use Rattle.block_codec.specs.declared.block.Block.{Block}
 use Rattle.block_codec.specs.Text.{hash_of_header, same_hash}
-use Rattle.chain_model.specs.Tree.{Tree, genesis_hash}
+use Rattle.chain_model.specs.Tree.{Tree}
+use Rattle.block_codec.specs.Genesis.{genesis_hash}
 use Rattle.chain_model.specs.HeaderRules.{first_tree, header_broken, with_header}
 use Rattle.chain_model.specs.BodyRules.{body_broken, place_below}
 use Rattle.chain_model.specs.Apply.{outcome}

@@ -1,5 +1,5 @@
 -- Generated chains: blocks that a number determines, with the least nonces, and the block file of the first of them.
-use Rattle.std.specs.Prelude.{ℕ, zero, suc, ◌+◌, ◌*◌, ◌-◌, ◌/◌, ◌%◌, ◌^◌, pos, Bool, ◌==◌, List, [], ◌∷◌, ◌++◌, length, take, map, fold, nat_le, if◌then◌else◌}
+use Rattle.std.specs.Prelude.{ℕ, zero, suc, ◌+◌, ◌*◌, ◌-◌, ◌/◌, ◌%◌, ◌^◌, pos, ◌==◌, List, [], ◌∷◌, ◌++◌, length, take, map, fold, nat_le, if◌then◌else◌}
 use Rattle.std.specs.declared.option.Option.{Option}
 use Rattle.std.specs.declared.option.Option.TheVariants.{Some, None}
 use Rattle.std.specs.Option.{option_map}
@@ -15,11 +15,12 @@ use Rattle.block_codec.specs.declared.block.Header.{Header}
 use Rattle.block_codec.specs.declared.block.Block.{Block}
 use Rattle.block_codec.specs.Text.{txid_of, block_text, hash_of_header, zero_hash}
 use Rattle.block_codec.specs.Merkle.{merkle_root}
-use Rattle.block_codec.specs.Frames.{magic}
-use Rattle.chain_model.specs.Tree.{genesis_hash}
-use Rattle.chain_model.specs.HeaderRules.{number_of, target, target_bits}
+use Rattle.base_types.specs.Parameters.{message_start}
+use Rattle.block_codec.specs.Genesis.{genesis, genesis_hash}
+use Rattle.chain_model.specs.HeaderRules.{meets_target}
+use Rattle.base_types.specs.Parameters.{target_bits}
 use Rattle.chain_model.specs.BodyRules.{height_push}
-use Rattle.chain_model.specs.Coins.{subsidy}
+use Rattle.base_types.specs.Parameters.{subsidy, target_bits}
 
 -- ---- scripts
 
@@ -71,7 +72,7 @@ header_at number prev at = record {
   version = pos 0x20000000;
   prev = prev;
   root = merkle_root (map txid_of (txs_at number at));
-  time = 1296688602 + 600 * at;
+  time = genesis.time + 600 * at;
   bits = target_bits;
   nonce = 0;
 }
@@ -79,13 +80,10 @@ header_at number prev at = record {
 abbrev pub with_nonce : Header → ℕ → Header
 with_nonce header nonce = record header { nonce = nonce }
 
-abbrev pub meets_target : Header → Bool
-meets_target header = nat_le (number_of (hash_of_header header).bytes) target
-
 -- the least of so many nonces, from this one on, with which a header meets the target
 unfoldable pub least_nonce : ℕ → ℕ → Header → Option ℕ
 least_nonce zero nonce header = None
-least_nonce (suc more) nonce header = if meets_target (with_nonce header nonce) then Some nonce else least_nonce more (suc nonce) header
+least_nonce (suc more) nonce header = if meets_target (hash_of_header (with_nonce header nonce)) then Some nonce else least_nonce more (suc nonce) header
 
 -- the block of a height over the previous block's hash; none where no nonce meets the target
 unfoldable pub block_at : ℕ → Hash32 → ℕ → Option Block
@@ -113,11 +111,16 @@ unfoldable pub chain : ℕ → ℕ → Result (List Block) (List Block)
 chain number zero = Ok []
 chain number (suc count) = and_next number (suc count) (chain number count)
 
+-- the blocks of a chain, or those before the first that has no nonce
+abbrev pub blocks_of : Result (List Block) (List Block) → List Block
+blocks_of (Ok blocks) = blocks
+blocks_of (Err blocks) = blocks
+
 -- ---- the file
 
 -- a block behind its head
 abbrev pub frame_text : Block → List ℕ
-frame_text block = magic ++ number_text w32 (length (block_text block)) ++ block_text block
+frame_text block = message_start ++ number_text w32 (length (block_text block)) ++ block_text block
 
 -- a block file
 abbrev pub file_text : List Block → List ℕ

@@ -1,9 +1,11 @@
 -- The rules of headers, and the trees that they allow.
-use Rattle.std.specs.Prelude.{◌≡◌, ℕ, zero, suc, ◌+◌, ◌*◌, ◌^◌, ℤ, pos, negsuc, Bool, true, false, not, ◌&&◌, ◌||◌, ◌==◌, List, [], ◌∷◌, ◌++◌, length, fold, nat_lt, nat_le, cond}
+use Rattle.std.specs.Prelude.{◌≡◌, ℕ, zero, suc, ◌+◌, ◌*◌, ℤ, pos, negsuc, Bool, true, false, not, ◌&&◌, ◌||◌, ◌==◌, List, [], ◌∷◌, ◌++◌, length, fold, nat_lt, nat_le, cond}
 use Rattle.std.specs.declared.option.Option.{Option}
 use Rattle.std.specs.declared.option.Option.TheVariants.{Some, None}
 use Rattle.std.specs.FinMap.{contains_key}
 use Rattle.std.specs.FinMap as finite
+use Rattle.base_types.specs.Parameters.{target, target_bits}
+use Rattle.base_types.specs.declared.hash.Hash32.{Hash32}
 use Rattle.base_types.specs.declared.program.Rules.{Rules}
 use Rattle.base_types.specs.declared.refused.HeaderRefused.{HeaderRefused}
 use Rattle.base_types.specs.declared.refused.HeaderRefused.TheVariants.{Known, HighHash, NoParent, BadBits, TooOld, BadVersion, TreeFull}
@@ -17,13 +19,9 @@ abbrev pub number_of : List ℕ → ℕ
 number_of [] = 0
 number_of (byte ∷ bytes) = byte + 256 * number_of bytes
 
--- no hash may be greater as a number
-abbrev pub target : ℕ
-target = 0x7fffff * 256 ^ 29
-
--- the one target that headers may carry, in its short form
-abbrev pub target_bits : ℕ
-target_bits = 0x207fffff
+-- a hash is no greater than the target as a number whose lowest byte stands first
+abbrev pub meets_target : Hash32 → Bool
+meets_target hash = nat_le (number_of hash.bytes) target
 
 abbrev pub is_below : ℤ → ℕ → Bool
 is_below (pos n) limit = nat_lt n limit
@@ -37,7 +35,7 @@ is_outdated rules at version = (is_below version 4 && nat_le rules.version4 at) 
 unfoldable pub header_broken : ℕ → Tree → Header → Option HeaderRefused
 header_broken limit tree header = first_broken (
     (contains_key tree.headers (hash_of_header header), Known) ∷
-    (nat_lt target (number_of (hash_of_header header).bytes), HighHash) ∷
+    (not (meets_target (hash_of_header header)), HighHash) ∷
     (not (contains_key tree.headers header.prev), NoParent) ∷
     (not (header.bits == target_bits), BadBits) ∷
     (nat_le header.time (median_time tree.headers header.prev), TooOld) ∷
@@ -65,14 +63,14 @@ and_then None next = None
 and_then (Some tree) next = next tree
 
 -- the tree after headers that come one after the other; none where one of them breaks a rule
-unfoldable pub grown : ℕ → Tree → List Header → Option Tree
-grown limit tree [] = Some tree
-grown limit tree (header ∷ headers) = and_then (and_header (header_broken limit tree header) tree header) (λ next. grown limit next headers)
+unfoldable pub tree_with : ℕ → Tree → List Header → Option Tree
+tree_with limit tree [] = Some tree
+tree_with limit tree (header ∷ headers) = and_then (and_header (header_broken limit tree header) tree header) (λ next. tree_with limit next headers)
 
 -- a tree comes from genesis alone by headers that break no rule, one after the other
 pub record IsTree (limit : ℕ) (tree : Tree) : Type 0 where
   pub accepted : List Header
-  pub comes : grown limit (first_tree tree.rules) accepted ≡ Some tree
+  pub comes : tree_with limit (first_tree tree.rules) accepted ≡ Some tree
 
 -- ---- the closure of a tree under the headers of a file
 
@@ -83,22 +81,22 @@ pub record Closed : Type 0 where
   pub full : Bool
 
 -- a header that breaks no rule is added; where the tree is full it ends the work; any other is passed over
-abbrev pub judged : Option HeaderRefused → Closed → Header → Closed
-judged None closed header = record closed { tree = with_header closed.tree header; added = closed.added ++ header ∷ [] }
-judged (Some TreeFull) closed header = record closed { full = true }
-judged (Some Known) closed header = closed
-judged (Some HighHash) closed header = closed
-judged (Some NoParent) closed header = closed
-judged (Some BadBits) closed header = closed
-judged (Some TooOld) closed header = closed
-judged (Some BadVersion) closed header = closed
+abbrev pub closed_with : Option HeaderRefused → Closed → Header → Closed
+closed_with None closed header = record closed { tree = with_header closed.tree header; added = closed.added ++ header ∷ [] }
+closed_with (Some TreeFull) closed header = record closed { full = true }
+closed_with (Some Known) closed header = closed
+closed_with (Some HighHash) closed header = closed
+closed_with (Some NoParent) closed header = closed
+closed_with (Some BadBits) closed header = closed
+closed_with (Some TooOld) closed header = closed
+closed_with (Some BadVersion) closed header = closed
 
-abbrev pub offered : ℕ → Closed → Header → Closed
-offered limit closed header = cond closed.full closed (judged (header_broken limit closed.tree header) closed header)
+abbrev pub closed_after : ℕ → Closed → Header → Closed
+closed_after limit closed header = cond closed.full closed (closed_with (header_broken limit closed.tree header) closed header)
 
 -- one round over the headers in their order
 abbrev pub round : ℕ → List Header → Closed → Closed
-round limit headers closed = fold (offered limit) closed headers
+round limit headers closed = fold (closed_after limit) closed headers
 
 -- so many rounds
 unfoldable pub rounds : ℕ → ℕ → List Header → Closed → Closed

@@ -13,7 +13,8 @@ use Rattle.block_codec.specs.declared.block.Block.{Block}
 use Rattle.block_codec.specs.Text.{hash_of_header}
 use Rattle.chain_model.specs.Tree.{Tree}
 use Rattle.chain_model.specs.BodyRules.{same_outpoint, others_of}
-use Rattle.chain_model.specs.Coins.{spendable_of, value_of_coins, subsidy}
+use Rattle.chain_model.specs.Coins.{spendable_of, value_of_coins}
+use Rattle.base_types.specs.Parameters.{subsidy}
 use Rattle.chain_model.specs.Apply.{outcome, replayed}
 
 -- the outpoints that a transaction's inputs name

@@ -1,3 +1,4 @@
+pub mod Above
 pub mod Answers
 pub mod Apply
 pub mod BodyRules
@@ -5,14 +6,15 @@ pub mod Changes
 pub mod Choice
 pub mod Codes
 pub mod Coins
-pub mod Examples
 pub mod Fees
 pub mod Folding
 pub mod Generated
+pub mod Growth
 pub mod HeaderRules
 pub mod Laws
-pub mod OutPoints
 pub mod Rules
 pub mod Seen
+pub mod SmallChoices
+pub mod SmallTrees
 pub mod Standing
 pub mod Tree

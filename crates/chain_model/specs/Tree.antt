@@ -1,5 +1,5 @@
 -- The tree of headers: blocks by their hashes, each but the first below its parent.
-use Rattle.std.specs.Prelude.{ℕ, zero, suc, ◌-◌, ◌/◌, not, List, [], ◌∷◌, length, take, map, reverse, take_while, slice_get, pos, nat_le, cond, unwrap_or}
+use Rattle.std.specs.Prelude.{ℕ, zero, suc, ◌-◌, ◌/◌, not, List, [], ◌∷◌, length, take, map, reverse, take_while, slice_get, nat_le, cond, unwrap_or}
 use Rattle.std.specs.declared.option.Option.{Option}
 use Rattle.std.specs.declared.option.Option.TheVariants.{Some, None}
 use Rattle.std.specs.Option.{option_map_or}
@@ -10,7 +10,8 @@ use Rattle.base_types.specs.Keys.{hash_cmp}
 use Rattle.base_types.specs.declared.hash.Hash32.{Hash32}
 use Rattle.base_types.specs.declared.program.Rules.{Rules}
 use Rattle.block_codec.specs.declared.block.Header.{Header}
-use Rattle.block_codec.specs.Text.{hash_of_header, zero_hash, same_hash}
+use Rattle.block_codec.specs.Genesis.{genesis, genesis_hash}
+use Rattle.block_codec.specs.Text.{same_hash}
 
 -- headers by their hashes
 abbrev pub Headers : Type 0
@@ -20,20 +21,6 @@ Headers = FinMap hash_cmp Header
 pub record Tree : Type 0 where
   pub headers : Headers
   pub rules : Rules
-
--- the first header of regtest
-abbrev pub genesis : Header
-genesis = record {
-  version = pos 1;
-  prev = zero_hash;
-  root = record { bytes = 0x3b ∷ 0xa3 ∷ 0xed ∷ 0xfd ∷ 0x7a ∷ 0x7b ∷ 0x12 ∷ 0xb2 ∷ 0x7a ∷ 0xc7 ∷ 0x2c ∷ 0x3e ∷ 0x67 ∷ 0x76 ∷ 0x8f ∷ 0x61 ∷ 0x7f ∷ 0xc8 ∷ 0x1b ∷ 0xc3 ∷ 0x88 ∷ 0x8a ∷ 0x51 ∷ 0x32 ∷ 0x3a ∷ 0x9f ∷ 0xb8 ∷ 0xaa ∷ 0x4b ∷ 0x1e ∷ 0x5e ∷ 0x4a ∷ [] };
-  time = 1296688602;
-  bits = 0x207fffff;
-  nonce = 2;
-}
-
-unfoldable pub genesis_hash : Hash32
-genesis_hash = hash_of_header genesis
 
 -- genesis alone
 abbrev pub first_headers : Headers

@@ -4,7 +4,7 @@ ghost use Rattle.std.specs.Prelude.{◌≡◌, ◌≤◌, ◌+◌, Ok, Err, IfOk
 ghost use Rattle.base_types.specs.declared.refused.CoinRefused.{CoinRefused};
 ghost use Rattle.block_codec.specs.Text.{txid_of, hash_of_header};
 ghost use Rattle.chain_model.specs.Tree.{height};
-ghost use Rattle.chain_model.specs.BodyRules.{max_money};
+ghost use Rattle.base_types.specs.Parameters.{max_money};
 ghost use Rattle.chain_model.specs.Apply.{after_tx, after_txs, outcome};
 ghost use Rattle.chain_model.specs.Changes.{with_changes};
 ghost use Rattle.chain_model.specs.Answers.{Refuses, KeptOnRefusal, OnRefused, RefusedBy, outcome_of};
@@ -12,17 +12,15 @@ ghost use Rattle.chain_model.specs.Laws.{Untouched, MakesAtMostTheSubsidy};
 ghost use Rattle.chain_model.specs.Standing.{Stands};
 
 use crate::changes::Changes;
+use crate::context::Context;
 use crate::fault::{ApplyFault, ReplayFault};
 use crate::outputs::value_of;
 use crate::overwriting::overwrites;
 use crate::plain::Plain;
-use crate::reward::subsidy;
 use crate::spending::fees_after;
-use crate::standing::Standing;
 use crate::tree_view::TreeView;
-use base_types::{CoinRefused, Hash32};
-use block_codec::{Block, Tx, block_hash};
-use merkle::txids;
+use base_types::{CoinRefused, Hash32, subsidy};
+use block_codec::{Block, HashedBlock, Tx, block_hash, txids};
 use std::alloc::Global;
 
 /// Applies a block that stands in a tree to coins. `Refused` has the block's hash and the first rule that it breaks; the coins
@@ -46,19 +44,20 @@ pub fn apply_block<T: TreeView>(
     ensures values { OnOk result (MakesAtMostTheSubsidy (height (T.tree tree.now).headers block.now.header.prev + 1) coins.old coins.new) }
 {
     let txids = txids(alloc, block.txs.as_slice())?;
-    apply_hashed_block(alloc, coins, block, &txids, tree)
+    match apply(alloc, coins, block, &txids, tree) {
+        Ok(()) => Ok(()),
+        Err(fault) => Err(fault.of_block(block_hash(&block.header))),
+    }
 }
 
-/// The same where the txids of the block's transactions are known, so that none is hashed once more.
+/// The same of a block whose hashes are known, so that nothing is hashed once more.
 pub fn apply_hashed_block<T: TreeView>(
     alloc: Global,
     coins: &mut Plain,
-    block: &Block,
-    txids: &[Hash32],
+    block: &HashedBlock,
     tree: &T,
 ) -> Result<(), ReplayFault>
-    requires stands { Stands (T.tree tree.now) block.now }
-    requires hashed { txids.now ≡ map txid_of block.now.txs }
+    requires { Stands (T.tree tree.now) block.now }
 
     // The coins after the block, or the rule that it breaks, and the other way round.
     ensures ok { OnOk result (outcome (T.tree tree.now) coins.old block.now ≡ Ok coins.new) }
@@ -70,13 +69,9 @@ pub fn apply_hashed_block<T: TreeView>(
     ensures untouched { OnOk result (Untouched block.now coins.old coins.new) }
     ensures values { OnOk result (MakesAtMostTheSubsidy (height (T.tree tree.now).headers block.now.header.prev + 1) coins.old coins.new) }
 {
-    match apply(alloc, coins, block, txids, tree) {
+    match apply(alloc, coins, block.block(), block.txids(), tree) {
         Ok(()) => Ok(()),
-        Err(ApplyFault::NoMemory) => Err(ReplayFault::NoMemory),
-        Err(ApplyFault::Refused(why)) => Err(ReplayFault::Refused {
-            hash: block_hash(&block.header),
-            why,
-        }),
+        Err(fault) => Err(fault.of_block(*block.hash())),
     }
 }
 
@@ -92,25 +87,25 @@ pub(crate) fn apply<T: TreeView>(
     ensures answers { MatchResult result (λ _. outcome (T.tree tree.now) coins.old block.now ≡ Ok coins.new) (λ fault. Refuses (outcome (T.tree tree.now) coins.old block.now) fault) }
     ensures kept { KeptOnRefusal result coins.old coins.new }
 {
-    let standing = Standing::below(tree, &block.header.prev)?;
-    let changes = changes_of(alloc, &standing, coins, block.txs.as_slice(), txids)?;
+    let context = Context::below(tree, &block.header.prev)?;
+    let changes = changes_of(alloc, &context, coins, block.txs.as_slice(), txids)?;
     changes.merge_into(coins)?;
     Ok(())
 }
 
 /// The changes that the transactions of a block, of these txids, make to coins, or the first rule that they break. The first
 /// transaction is the coinbase.
-pub fn changes_of<T: TreeView>(
+pub(crate) fn changes_of<T: TreeView>(
     alloc: Global,
-    standing: &Standing<T>,
+    context: &Context<T>,
     coins: &Plain,
     txs: &[Tx],
     txids: &[Hash32],
 ) -> Result<Changes, ApplyFault>
     requires { txids.now ≡ map txid_of txs.now }
     ensures { MatchResult result
-        (λ changes. outcome_of (T.tree standing.now.tree.now) standing.now.parent.now standing.now.height coins.now txs.now ≡ Ok (with_changes changes coins.now))
-        (λ fault. Refuses (outcome_of (T.tree standing.now.tree.now) standing.now.parent.now standing.now.height coins.now txs.now) fault) }
+        (λ changes. outcome_of (record { tree = T.tree context.now.tree.now; parent = context.now.parent.now; at = context.now.height }) coins.now txs.now ≡ Ok (with_changes changes coins.now))
+        (λ fault. Refuses (outcome_of (record { tree = T.tree context.now.tree.now; parent = context.now.parent.now; at = context.now.height }) coins.now txs.now) fault) }
 {
     if overwrites(coins, txs, txids)? {
         return Err(ApplyFault::Refused(CoinRefused::Bip30));
@@ -119,18 +114,18 @@ pub fn changes_of<T: TreeView>(
         return Ok(Changes::new(alloc));
     };
     let mut changes = Changes::new(alloc);
-    changes.make_outputs(coinbase, &txids[0], standing.height)?;
-    let fees = pay_all(alloc, standing, coins, &mut changes, others, &txids[1..])?;
-    if fees + subsidy(standing.height) < value_of(coinbase.outputs.as_slice()) {
+    changes.make_outputs(coinbase, &txids[0], context.height)?;
+    let fees = pay_all(alloc, context, coins, &mut changes, others, &txids[1..])?;
+    if fees + subsidy(context.height) < value_of(coinbase.outputs.as_slice()) {
         return Err(ApplyFault::Refused(CoinRefused::CoinbaseAmount));
     }
     Ok(changes)
 }
 
-/// Adds the changes that transactions make which aren't coinbases, one after the other. The result is the sum of their fees.
+// Adds the changes that transactions make which aren't coinbases, one after the other. The result is the sum of their fees.
 fn pay_all<T: TreeView>(
     alloc: Global,
-    standing: &Standing<T>,
+    context: &Context<T>,
     coins: &Plain,
     changes: &mut Changes,
     txs: &[Tx],
@@ -138,21 +133,21 @@ fn pay_all<T: TreeView>(
 ) -> Result<u64, ApplyFault>
     requires { txids.now ≡ map txid_of txs.now }
     ensures answers { MatchResult result
-        (λ fees. after_txs (T.tree standing.now.tree.now) standing.now.parent.now standing.now.height (record { coins = with_changes changes.old coins.now; fees = 0 }) txs.now ≡ Ok (record { coins = with_changes changes.new coins.now; fees = fees }))
-        (λ fault. Refuses (after_txs (T.tree standing.now.tree.now) standing.now.parent.now standing.now.height (record { coins = with_changes changes.old coins.now; fees = 0 }) txs.now) fault) }
+        (λ fees. after_txs (record { tree = T.tree context.now.tree.now; parent = context.now.parent.now; at = context.now.height }) (record { coins = with_changes changes.old coins.now; fees = 0 }) txs.now ≡ Ok (record { coins = with_changes changes.new coins.now; fees = fees }))
+        (λ fault. Refuses (after_txs (record { tree = T.tree context.now.tree.now; parent = context.now.parent.now; at = context.now.height }) (record { coins = with_changes changes.old coins.now; fees = 0 }) txs.now) fault) }
     ensures in_range { IfOk result (λ fees. fees ≤ max_money) }
 {
     let mut fees = 0u64;
     for (tx, txid) in txs.iter().zip(txids) {
-        fees = pay(alloc, standing, coins, changes, fees, tx, txid)?;
+        fees = pay(alloc, context, coins, changes, fees, tx, txid)?;
     }
     Ok(fees)
 }
 
-/// Adds the changes that a transaction makes which isn't a coinbase. The result is the fees so far with its own.
+// Adds the changes that a transaction makes which isn't a coinbase. The result is the fees so far with its own.
 fn pay<T: TreeView>(
     alloc: Global,
-    standing: &Standing<T>,
+    context: &Context<T>,
     coins: &Plain,
     changes: &mut Changes,
     fees: u64,
@@ -162,12 +157,12 @@ fn pay<T: TreeView>(
     requires fees { fees ≤ max_money }
     requires txid { txid.now ≡ txid_of tx.now }
     ensures answers { MatchResult result
-        (λ after. after_tx (T.tree standing.now.tree.now) standing.now.parent.now standing.now.height (record { coins = with_changes changes.old coins.now; fees = fees }) tx.now ≡ Ok (record { coins = with_changes changes.new coins.now; fees = after }))
-        (λ fault. Refuses (after_tx (T.tree standing.now.tree.now) standing.now.parent.now standing.now.height (record { coins = with_changes changes.old coins.now; fees = fees }) tx.now) fault) }
+        (λ after. after_tx (record { tree = T.tree context.now.tree.now; parent = context.now.parent.now; at = context.now.height }) (record { coins = with_changes changes.old coins.now; fees = fees }) tx.now ≡ Ok (record { coins = with_changes changes.new coins.now; fees = after }))
+        (λ fault. Refuses (after_tx (record { tree = T.tree context.now.tree.now; parent = context.now.parent.now; at = context.now.height }) (record { coins = with_changes changes.old coins.now; fees = fees }) tx.now) fault) }
     ensures in_range { IfOk result (λ after. after ≤ max_money) }
 {
-    let after = fees_after(alloc, standing, coins, changes, fees, tx)?;
+    let after = fees_after(alloc, context, coins, changes, fees, tx)?;
     changes.spend_inputs(tx.inputs.as_slice())?;
-    changes.make_outputs(tx, txid, standing.height)?;
+    changes.make_outputs(tx, txid, context.height)?;
     Ok(after)
 }

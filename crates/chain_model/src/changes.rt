@@ -18,7 +18,7 @@ use std::marker::Model;
 
 /// At each outpoint that a block has named so far, the coin that it leaves there, or none.
 #[derive(Debug, Drop)]
-pub struct Changes {
+pub(crate) struct Changes {
     changed: BTreeMap<OutPoint, Option<Coin>>,
 }
 
@@ -35,7 +35,7 @@ impl Model for Changes {
 
 impl Changes {
     /// No changes, which takes no memory.
-    pub fn new(alloc: Global) -> Self
+    pub(crate) fn new(alloc: Global) -> Self
         ensures { result ≡ finite.empty }
     {
         Changes {
@@ -44,7 +44,7 @@ impl Changes {
     }
 
     /// The coin of an outpoint after these changes to coins.
-    pub fn coin<'a>(&'a self, coins: &'a Plain, key: &OutPoint) -> Option<&'a Coin>
+    pub(crate) fn coin<'a>(&'a self, coins: &'a Plain, key: &OutPoint) -> Option<&'a Coin>
         ensures { option_copied result ≡ finite.get (with_changes self.now coins.now) key.now }
     {
         match self.changed.get(key) {
@@ -54,7 +54,7 @@ impl Changes {
     }
 
     /// Puts a coin at an outpoint.
-    pub fn make(&mut self, key: OutPoint, coin: Coin) -> Result<(), AllocError>
+    pub(crate) fn make(&mut self, key: OutPoint, coin: Coin) -> Result<(), AllocError>
         ensures { OnOk result (self.new ≡ finite.insert self.old key (Some coin)) }
     {
         self.changed.insert(key, Some(coin))?;
@@ -62,7 +62,7 @@ impl Changes {
     }
 
     /// Takes the coin of an outpoint away.
-    pub fn spend(&mut self, key: OutPoint) -> Result<(), AllocError>
+    pub(crate) fn spend(&mut self, key: OutPoint) -> Result<(), AllocError>
         ensures { OnOk result (self.new ≡ finite.insert self.old key None) }
     {
         self.changed.insert(key, None)?;
@@ -70,7 +70,7 @@ impl Changes {
     }
 
     /// Takes away the coins that inputs spend.
-    pub fn spend_inputs(&mut self, inputs: &[TxIn]) -> Result<(), AllocError>
+    pub(crate) fn spend_inputs(&mut self, inputs: &[TxIn]) -> Result<(), AllocError>
         ensures { OnOk result ((coins : Coins) → with_changes self.new coins ≡ without inputs.now (with_changes self.old coins)) }
     {
         for input in inputs {
@@ -80,7 +80,12 @@ impl Changes {
     }
 
     /// Puts the outputs of a transaction that can be spent, in a block at a height.
-    pub fn make_outputs(&mut self, tx: &Tx, txid: &Hash32, height: u32) -> Result<(), AllocError>
+    pub(crate) fn make_outputs(
+        &mut self,
+        tx: &Tx,
+        txid: &Hash32,
+        height: u32,
+    ) -> Result<(), AllocError>
         requires { txid.now ≡ txid_of tx.now }
         ensures { OnOk result ((coins : Coins) → with_changes self.new coins ≡ with_outputs height tx.now (with_changes self.old coins)) }
     {
@@ -98,7 +103,7 @@ impl Changes {
     }
 
     /// Makes the changes to coins.
-    pub fn merge_into(self, coins: &mut Plain) -> Result<(), AllocError>
+    pub(crate) fn merge_into(self, coins: &mut Plain) -> Result<(), AllocError>
         ensures { OnOk result (coins.new ≡ with_changes self coins.old) }
     {
         for (key, change) in self.changed {

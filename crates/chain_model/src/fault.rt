@@ -1,7 +1,8 @@
 //! Why a replay ended.
 
 ghost use Rattle.std.specs.Prelude.{◌≡◌};
-ghost use Rattle.chain_model.specs.declared.fault.ReplayFault.TheVariants.{NoMemory};
+ghost use Rattle.base_types.specs.declared.refused.CoinRefused.{CoinRefused};
+ghost use Rattle.chain_model.specs.declared.fault.ReplayFault.TheVariants.{NoMemory, Refused as RefusedBlock};
 ghost use Rattle.chain_model.specs.declared.fault.ApplyFault.TheVariants.{NoMemory as OutOfMemory, Refused};
 
 use base_types::{CoinRefused, Hash32};
@@ -31,6 +32,19 @@ pub enum ApplyFault {
     NoMemory,
     /// The block breaks this rule, and none before it.
     Refused(CoinRefused),
+}
+
+impl ApplyFault {
+    /// The same, with the hash of the block.
+    pub fn of_block(self, hash: Hash32) -> ReplayFault
+        ensures memory { self ≡ OutOfMemory → result ≡ NoMemory }
+        ensures refused { (rule : CoinRefused) → self ≡ Refused rule → result ≡ RefusedBlock hash rule }
+    {
+        match self {
+            ApplyFault::NoMemory => ReplayFault::NoMemory,
+            ApplyFault::Refused(why) => ReplayFault::Refused { hash, why },
+        }
+    }
 }
 
 impl From<AllocError> for ApplyFault {

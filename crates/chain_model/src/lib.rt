@@ -4,21 +4,26 @@
 
 mod applying;
 mod changes;
+mod context;
 mod fault;
 mod locks;
 mod outputs;
 mod overwriting;
 mod plain;
+mod proof_of_work;
 mod replaying;
-mod reward;
+mod small_choices;
 mod spending;
-mod standing;
 mod tree_view;
 
 pub use applying::{apply_block, apply_hashed_block};
 pub use fault::ReplayFault;
 pub use plain::Plain;
+pub use proof_of_work::meets_target;
 pub use replaying::replay;
+pub use small_choices::{
+    greedy_block_refused, headers_in_any_order, higher_blocks_first, output_spent_in_its_block,
+};
 pub use tree_view::TreeView;
 
 #[cfg(test)]

@@ -1,4 +1,4 @@
-//! Outputs whose outpoints have coins already (BIP30).
+//! Outputs whose outpoints have coins already (BIP 30).
 
 ghost use Rattle.std.specs.Prelude.{◌≡◌, IfOk, map};
 ghost use Rattle.std.specs.List.{list_any};
@@ -14,7 +14,7 @@ use block_codec::Tx;
 use std::alloc::AllocError;
 
 /// Whether some output of the transactions, whether it can be spent or not, has its outpoint in the coins.
-pub fn overwrites(coins: &Plain, txs: &[Tx], txids: &[Hash32]) -> Result<bool, AllocError>
+pub(crate) fn overwrites(coins: &Plain, txs: &[Tx], txids: &[Hash32]) -> Result<bool, AllocError>
     requires { txids.now ≡ map txid_of txs.now }
     ensures { IfOk result (λ found. found ≡ some_overwritten coins.now txs.now) }
 {

@@ -15,6 +15,7 @@ use std::marker::Model;
 #[derive(Debug, Drop)]
 pub struct Plain {
     coins: BTreeMap<OutPoint, Coin>,
+    alloc: Global,
 }
 
 impl Model for Plain {
@@ -36,6 +37,7 @@ impl Plain {
     {
         Plain {
             coins: BTreeMap::new(alloc),
+            alloc,
         }
     }
 
@@ -70,10 +72,10 @@ impl Plain {
     }
 
     /// The outpoints of the coins, in their order.
-    pub fn outpoints(&self, alloc: Global) -> Result<Keys, AllocError>
+    pub fn outpoints(&self) -> Result<Keys, AllocError>
         ensures { IfOk result (λ keys. keys ≡ finite.keys self.now) }
     {
-        Ok(Keys::from(keys_of(alloc, &self.coins)?))
+        Ok(Keys::from(keys_of(self.alloc, &self.coins)?))
     }
 
     /// The same coins in memory of their own.
@@ -82,6 +84,7 @@ impl Plain {
     {
         Ok(Plain {
             coins: self.coins.clone()?,
+            alloc: self.alloc,
         })
     }
 }

@@ -5,7 +5,7 @@ ghost use Rattle.std.specs.Prelude.{◌≡◌, ◌≤◌, ◌+◌, ◌-◌, [], 
 ghost use Rattle.base_types.specs.declared.refused.CoinRefused.TheVariants.{InBelowOut, ValueRange};
 ghost use Rattle.chain_model.specs.Apply.{is_immature as immature, coins_broken, unless};
 ghost use Rattle.chain_model.specs.Rules.{first_broken};
-ghost use Rattle.chain_model.specs.BodyRules.{max_money};
+ghost use Rattle.base_types.specs.Parameters.{max_money};
 ghost use Rattle.chain_model.specs.Coins.{spent_by, value_of_coins, value_of_outputs};
 ghost use Rattle.chain_model.specs.Changes.{with_changes};
 ghost use Rattle.chain_model.specs.Answers.{Answers};
@@ -13,62 +13,56 @@ ghost use Rattle.chain_model.specs.Fees.{fees_by, fees_with};
 ghost use Rattle.chain_model.specs.Seen.{seen};
 
 use crate::changes::Changes;
+use crate::context::Context;
 use crate::fault::ApplyFault;
 use crate::locks::is_locked;
 use crate::outputs::value_of;
 use crate::plain::Plain;
-use crate::standing::Standing;
 use crate::tree_view::TreeView;
-use base_types::{Coin, CoinRefused};
+use base_types::{COINBASE_MATURITY, Coin, CoinRefused, MAX_MONEY};
 use block_codec::{Tx, TxIn};
 use std::alloc::{AllocError, Global};
 
-/// The most satoshis that there can be.
-const MAX_MONEY: u64 = 2_100_000_000_000_000;
-
-/// The number of blocks after which a coinbase's coin may be spent.
-const COINBASE_MATURITY: u64 = 100;
-
 /// The fees so far with those of a transaction that isn't a coinbase, or the first rule that it breaks on coins and changes
 /// to them.
-pub fn fees_after<T: TreeView>(
+pub(crate) fn fees_after<T: TreeView>(
     alloc: Global,
-    standing: &Standing<T>,
+    context: &Context<T>,
     coins: &Plain,
     changes: &Changes,
     fees: u64,
     tx: &Tx,
 ) -> Result<u64, ApplyFault>
     requires { fees ≤ max_money }
-    ensures answers { Answers (fees_with (T.tree standing.now.tree.now) standing.now.parent.now standing.now.height fees tx.now (spent_by (with_changes changes.now coins.now) tx.now.inputs)) result }
+    ensures answers { Answers (fees_with (record { tree = T.tree context.now.tree.now; parent = context.now.parent.now; at = context.now.height }) fees tx.now (spent_by (with_changes changes.now coins.now) tx.now.inputs)) result }
     ensures in_range { IfOk result (λ after. after ≤ max_money) }
 {
     let Some(spent) = spent_coins(alloc, coins, changes, tx.inputs.as_slice())? else {
         return Err(ApplyFault::Refused(CoinRefused::MissingInput));
     };
-    Ok(fees_after_spending(standing, fees, tx, &spent)?)
+    Ok(fees_after_spending(context, fees, tx, &spent)?)
 }
 
-/// The same by the coins that its inputs spend.
+// The same by the coins that its inputs spend.
 fn fees_after_spending<T: TreeView>(
-    standing: &Standing<T>,
+    context: &Context<T>,
     fees: u64,
     tx: &Tx,
     spent: &[&Coin],
 ) -> Result<u64, CoinRefused>
     requires { fees ≤ max_money }
-    ensures result { result ≡ fees_by (T.tree standing.now.tree.now) standing.now.parent.now standing.now.height fees tx.now (seen spent.now) }
+    ensures result { result ≡ fees_by (record { tree = T.tree context.now.tree.now; parent = context.now.parent.now; at = context.now.height }) fees tx.now (seen spent.now) }
     ensures in_range { IfOk result (λ after. after ≤ max_money) }
 {
-    let paid_in = value_of_spent(standing.height, spent)?;
+    let paid_in = value_of_spent(context.height, spent)?;
     let after = fees_with_change(fees, paid_in, value_of(tx.outputs.as_slice()))?;
-    if is_locked(standing, tx, spent) {
+    if is_locked(context, tx, spent) {
         return Err(CoinRefused::SequenceLock);
     }
     Ok(after)
 }
 
-/// The coins that inputs spend, in the inputs' order; none where one isn't there.
+// The coins that inputs spend, in the inputs' order; none where one isn't there.
 fn spent_coins<'a>(
     alloc: Global,
     coins: &'a Plain,
@@ -87,7 +81,7 @@ fn spent_coins<'a>(
     Ok(Some(spent))
 }
 
-/// The sum of the values of coins that are spent at a height, or the first rule that one breaks, coin by coin.
+// The sum of the values of coins that are spent at a height, or the first rule that one breaks, coin by coin.
 fn value_of_spent(height: u32, coins: &[&Coin]) -> Result<u64, CoinRefused>
     ensures ok { IfOk result (λ total. coins_broken height 0 (seen coins.now) ≡ None) }
     ensures total { IfOk result (λ total. total ≡ value_of_coins (seen coins.now)) }
@@ -107,14 +101,14 @@ fn value_of_spent(height: u32, coins: &[&Coin]) -> Result<u64, CoinRefused>
     Ok(total)
 }
 
-/// Whether a coin is a coinbase's, and a height is too low to spend it.
+// Whether a coin is a coinbase's, and a height is too low to spend it.
 fn is_immature(height: u32, coin: &Coin) -> bool
     ensures { result ≡ immature height coin.now }
 {
-    coin.coinbase && u64::from(height) < u64::from(coin.height) + COINBASE_MATURITY
+    coin.coinbase && u64::from(height) < u64::from(coin.height) + u64::from(COINBASE_MATURITY)
 }
 
-/// The fees so far with those of a transaction whose inputs and outputs have these sums.
+// The fees so far with those of a transaction whose inputs and outputs have these sums.
 #[tactic(auto, unfolding(crate::specs::Rules::first_broken))]
 fn fees_with_change(fees: u64, paid_in: u64, paid_out: u64) -> Result<u64, CoinRefused>
     requires fees { fees ≤ max_money }

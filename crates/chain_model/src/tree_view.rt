@@ -25,7 +25,7 @@ pub trait TreeView {
     fn ancestor(&self, hash: &Hash32, height: u32) -> Option<Hash32>
         ensures { result ≡ ancestor_of (tree self.now).headers hash.now height };
 
-    /// The median of its time and of those of up to ten blocks before it (BIP113).
+    /// The median of its time and of those of up to ten blocks before it (BIP 113).
     fn median_time(&self, hash: &Hash32) -> Option<u32>
         ensures { result ≡ of_member (tree self.now).headers hash.now (median_of (tree self.now).headers hash.now) };
 

@@ -1,25 +1,25 @@
 -- One more header, by what callers see.
-use Rattle.std.proofs.Common.{◌≡◌, ℕ, ◌+◌, ◌-◌, ◌<◌, ◌^◌, List, [], ◌∷◌, ◌++◌, length, sym, ap, subst, ◌∙◌, arith, leb-false}
+use Rattle.std.proofs.Common.{◌≡◌, ℕ, ◌+◌, ◌-◌, ◌<◌, ◌^◌, List, [], ◌∷◌, ◌++◌, length, sym, ap, subst, ◌∙◌, arith}
 use Rattle.std.specs.Prelude.{slice_get}
 use Rattle.std.specs.declared.option.Option.TheVariants.{Some, None}
-use Rattle.std.specs.FinMap.{get, insert, contains_key}
-use Rattle.std.specs.FinMap as finite
+use Rattle.std.specs.FinMap.{get, insert}
 use Rattle.std.proofs.lemmas.Option.{slice_get_within, get_or_from_slice_get}
 use Rattle.std.proofs.lemmas.List.{length-map}
 use Rattle.base_types.specs.declared.hash.Hash32.{Hash32}
 use Rattle.base_types.specs.declared.program.Rules.{Rules}
 use Rattle.block_codec.specs.declared.block.Header.{Header}
 use Rattle.block_codec.specs.Text.{hash_of_header}
-use Rattle.chain_model.specs.Tree.{genesis_hash, height, ancestor}
+use Rattle.block_codec.specs.Genesis.{genesis_hash}
+use Rattle.chain_model.specs.Tree.{height, ancestor}
 use Rattle.chain_model.specs.HeaderRules.{header_broken}
 use Rattle.header_tree.specs.declared.entry.Entry.{Entry}
-use Rattle.header_tree.specs.Above.{IsAbove}
+use Rattle.chain_model.specs.Above.{IsAbove}
 use Rattle.header_tree.specs.Kept.{Numbers, headers_of, order_of, state_of, tree_of, IsKept, skip_height}
 use Rattle.header_tree.specs.State.{State, hash_at}
-use Rattle.header_tree.proofs.Chains.{height_is}
+use Rattle.chain_model.proofs.Chains.{height_is}
 use Rattle.header_tree.proofs.Keeping.{low, next_kept}
-use Rattle.header_tree.proofs.Judging.{fresh_and_room}
-use Rattle.header_tree.proofs.Down.{absent, named, any_entry, hash_here, height_here, way_here}
+use Rattle.chain_model.proofs.Trees.{acceptable}
+use Rattle.header_tree.proofs.Down.{named, any_entry, hash_here, height_here, way_here}
 
 -- a header that breaks no rule, and where its parent and its skip stand
 pub record Adds (s : State) (header : Header) (hash : Hash32) (parent skip below number : ℕ) : Type 0 where
@@ -39,9 +39,9 @@ entry_of header hash parent skip below = record { header = header; hash = hash; 
 module _ (entries : List Entry) (numbers : Numbers) (limit : ℕ) (rules : Rules) (kept : IsKept entries numbers limit rules) (header : Header) (hash : Hash32) (parent skip below number : ℕ) where
   added : Adds (state_of entries limit rules) header hash parent skip below number → IsKept (entries ++ entry_of header hash parent skip below ∷ []) (insert numbers hash number) limit rules
   added adds =
-      let fresh = fresh_and_room limit (tree_of entries rules) header adds.fine in
-      let new = absent (get (headers_of entries) hash) (ap (λ (h : Hash32). contains_key (headers_of entries) h) adds.its_hash ∙ fresh.0) in
-      let room = leb-false limit (finite.len (headers_of entries)) fresh.1 in
+      let fine = acceptable limit (tree_of entries rules) header adds.fine in
+      let new = ap (get (headers_of entries)) adds.its_hash ∙ fine.fresh in
+      let room = fine.room in
       let count = kept.count in
       let small = adds.small in
       let parent_less = slice_get_within (order_of entries) parent header.prev adds.under in

@@ -1,6 +1,6 @@
 -- Ways down by the entries.
 use Rattle.std.proofs.Common.{◌≡◌, ℕ, zero, suc, ◌+◌, ◌-◌, ◌<◌, ◌≤◌, min, get_or, List, [], ◌∷◌, length, false, refl, sym, ap, subst, ◌∙◌, arith}
-use Rattle.std.specs.Prelude.{slice_get, is_some}
+use Rattle.std.specs.Prelude.{slice_get}
 use Rattle.std.specs.List.{find}
 use Rattle.std.specs.declared.option.Option.{Option}
 use Rattle.std.specs.declared.option.Option.TheVariants.{Some, None}
@@ -12,22 +12,20 @@ use Rattle.std.proofs.lemmas.List.{length-map}
 use Rattle.base_types.specs.declared.hash.Hash32.{Hash32}
 use Rattle.base_types.specs.declared.program.Rules.{Rules}
 use Rattle.block_codec.specs.declared.block.Header.{Header}
-use Rattle.chain_model.specs.Tree.{genesis_hash, chain, time, height, ancestor, fork}
+use Rattle.block_codec.specs.Genesis.{genesis_hash}
+use Rattle.chain_model.specs.Tree.{chain, time, height, ancestor, fork}
 use Rattle.header_tree.specs.declared.entry.Entry.{Entry}
-use Rattle.header_tree.specs.Above.{IsAbove}
+use Rattle.chain_model.specs.Above.{IsAbove}
 use Rattle.header_tree.specs.Kept.{Numbers, headers_of, order_of, state_of, IsKept, HasParent, skip_height}
 use Rattle.header_tree.specs.State.{State, hash_at, IsBefore}
-use Rattle.header_tree.proofs.Chains.{same, height_is, ancestor_below, ancestor_way, ancestor_self, ancestor_past, chain_above, chain_none, whole_line}
+use Rattle.chain_model.proofs.Chains.{height_is, ancestor_below, ancestor_way, ancestor_self, ancestor_past, chain_above, chain_none, whole_line}
 use Rattle.header_tree.proofs.Keeping.{read_at, low, genesis_there, first_entry}
-use Rattle.header_tree.proofs.Forks.{Apart, apart_differ, apart_one, fork_step, fork_same, fork_low}
+use Rattle.chain_model.proofs.Hashes.{absent}
+use Rattle.chain_model.proofs.Forks.{Apart, apart_differ, apart_one, fork_step, fork_same, fork_low}
 
 pub never : (xs : List Hash32) → find (λ hash. false) xs ≡ None
 never [] = refl
 never (x ∷ xs) = never xs
-
-pub absent : {A : Type 0} (o : Option A) → is_some o ≡ false → o ≡ None
-absent None e = refl
-absent (Some x) e = absurd cc
 
 -- further down, and not below a height
 pub record Further (s : State) (n m k : ℕ) : Type 0 where

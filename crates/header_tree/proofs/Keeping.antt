@@ -1,62 +1,31 @@
 -- The entries and their numbers as headers are accepted.
-use Rattle.std.proofs.Common.{◌≡◌, ℕ, zero, suc, ◌+◌, ◌<◌, ◌≤◌, ◌^◌, get_or, Bool, cond, List, [], ◌∷◌, ◌++◌, length, map, ◌⊎◌, inl, inr, refl, sym, ap, subst, ◌∙◌, lt_irrefl, arith}
-use Rattle.std.specs.Prelude.{slice_get, is_some}
+use Rattle.std.proofs.Common.{◌≡◌, ℕ, zero, suc, ◌+◌, ◌<◌, ◌≤◌, ◌^◌, get_or, List, [], ◌∷◌, ◌++◌, length, map, ◌⊎◌, inl, inr, refl, sym, ap, subst, ◌∙◌, lt_irrefl, arith}
+use Rattle.std.specs.Prelude.{slice_get}
 use Rattle.std.specs.declared.option.Option.{Option}
 use Rattle.std.specs.declared.option.Option.TheVariants.{Some, None}
-use Rattle.std.specs.FinMap.{FinMap, get, insert, empty, get-insert, get-empty, len-insert, len-empty}
+use Rattle.std.specs.FinMap.{get, insert, empty, get-empty, len-empty}
 use Rattle.std.specs.FinMap as finite
 use Rattle.std.proofs.lemmas.Option.{same_Some, none-some, slice_get_within, slice_get-get_or, slice_get_read}
 use Rattle.std.proofs.lemmas.List.{reverse-append, length_push, map_push}
 use Rattle.base_types.specs.declared.hash.Hash32.{Hash32}
 use Rattle.base_types.specs.declared.program.Rules.{Rules}
-use Rattle.base_types.specs.Keys.{hash_cmp, hash_cmp_total, hash_cmp-IsAntisymmetric, hash_ties, cases_key, tied_same, tied_not}
+use Rattle.base_types.specs.Keys.{hash_cmp}
 use Rattle.block_codec.specs.declared.block.Header.{Header}
 use Rattle.block_codec.specs.Text.{hash_of_header}
-use Rattle.base_types.specs.declared.refused.HeaderRefused.{HeaderRefused}
-use Rattle.chain_model.specs.Tree.{Headers, Tree, genesis, genesis_hash, first_headers}
-use Rattle.chain_model.specs.HeaderRules.{IsTree, grown, header_broken, with_header, first_tree, and_header, and_then}
+use Rattle.chain_model.specs.Tree.{Headers, Tree, first_headers}
+use Rattle.block_codec.specs.Genesis.{genesis, genesis_hash}
+use Rattle.chain_model.specs.HeaderRules.{IsTree, tree_with, header_broken, with_header, first_tree}
 use Rattle.header_tree.specs.declared.entry.Entry.{Entry}
-use Rattle.header_tree.specs.Above.{IsBlock, IsAbove}
+use Rattle.chain_model.specs.Above.{IsBlock, IsAbove}
 use Rattle.header_tree.specs.Kept.{Numbers, headers_of, order_of, tree_of, state_of, IsKept, IsPlaced, IsNumbered, HasParent, HasSkip, skip_height}
-use Rattle.header_tree.specs.State.{State, IsGrown, after_header}
-use Rattle.header_tree.proofs.Chains.{get_first, get_middle, above_stays}
-
--- ---- maps by hashes
-
-pub same_or_not : (a b : Hash32) → (a ≡ b) ⊎ (a ≡ b → ⊥)
-same_or_not a b = cases_key hash_cmp hash_ties hash_cmp-IsAntisymmetric a b
-
-module _ {V : Type 0} where
-  pub get_same : (m : FinMap hash_cmp V) (k : Hash32) (v : V) → get (insert m k v) k ≡ Some v
-  get_same m k v =
-      get-insert hash_cmp_total m k v k
-      ∙ ap (λ (b : Bool). cond b (Some v) (get m k)) (tied_same hash_cmp hash_ties hash_cmp-IsAntisymmetric k)
-
-  pub get_other : (m : FinMap hash_cmp V) (k : Hash32) (v : V) (q : Hash32) → (q ≡ k → ⊥) → get (insert m k v) q ≡ get m q
-  get_other m k v q apart =
-      get-insert hash_cmp_total m k v q
-      ∙ ap (λ (b : Bool). cond b (Some v) (get m q)) (tied_not hash_cmp hash_ties hash_cmp-IsAntisymmetric q k apart)
-
-  pub len_new : (m : FinMap hash_cmp V) (k : Hash32) (v : V) → get m k ≡ None → finite.len (insert m k v) ≡ finite.len m + 1
-  len_new m k v none =
-      len-insert hash_cmp_total m k v
-      ∙ ap (λ (o : Option V). cond (is_some o) (finite.len m) (finite.len m + 1)) none
+use Rattle.header_tree.specs.State.{State, IsAcceptedInOrder, after_header}
+use Rattle.chain_model.proofs.Chains.{get_first, get_middle, above_stays}
+use Rattle.chain_model.proofs.Hashes.{same_or_not, get_same, get_other, len_new}
+use Rattle.chain_model.proofs.Trees.{grown_more}
 
 -- ---- trees
 
-grown_step : (limit : ℕ) (tree last : Tree) (h : Header) (hs more : List Header) (wanted : Tree) → ((t : Tree) → grown limit t hs ≡ Some last → grown limit t more ≡ Some wanted) → (b : Option HeaderRefused) → and_then (and_header b tree h) (λ next. grown limit next hs) ≡ Some last → and_then (and_header b tree h) (λ next. grown limit next more) ≡ Some wanted
-grown_step limit tree last h hs more wanted on None e = on (with_header tree h) e
-grown_step limit tree last h hs more wanted on (Some rule) e = absurd (none-some last e)
-
-pub grown_more : (limit : ℕ) (tree last : Tree) (headers : List Header) (header : Header) → grown limit tree headers ≡ Some last → header_broken limit last header ≡ None → grown limit tree (headers ++ header ∷ []) ≡ Some (with_header last header)
-unfolding grown
-grown_more limit tree last [] header e fine =
-    ap (λ (t : Tree). and_then (and_header (header_broken limit t header) t header) (λ next. Some next)) (same_Some tree last e)
-    ∙ ap (λ (o : Option HeaderRefused). and_then (and_header o last header) (λ next. Some next)) fine
-grown_more limit tree last (h ∷ hs) header e fine =
-    grown_step limit tree last h hs (hs ++ header ∷ []) (with_header last header) (λ t grows. grown_more limit t last hs header grows fine) (header_broken limit tree h) e
-
-pub is_tree : (s : State) → IsGrown s → IsTree s.limit s.tree
+pub is_tree : (s : State) → IsAcceptedInOrder s → IsTree s.limit s.tree
 is_tree s g = record { accepted = g.accepted; comes = g.comes }
 
 -- ---- genesis alone
@@ -94,9 +63,9 @@ first_at zero e p = subst (λ (x : Entry). IsPlaced (first_entry genesis_hash �
 first_at (suc number) e p = absurd (none-some e p)
 
 pub first_kept : (limit : ℕ) (rules : Rules) → IsKept (first_entry genesis_hash ∷ []) first_numbers limit rules
-unfolding grown
+unfolding tree_with
 first_kept limit rules = record {
-  grown = record { accepted = []; comes = refl; listed = refl };
+  in_order = record { accepted = []; comes = refl; listed = refl };
   count = len_new empty genesis_hash genesis (get-empty hash_cmp genesis_hash) ∙ ap (λ (n : ℕ). n + 1) (len-empty hash_cmp Header);
   some = omega arith;
   fits = omega arith;
@@ -265,13 +234,13 @@ module _ (entries : List Entry) (numbers : Numbers) (limit : ℕ) (rules : Rules
         let size = length_push entries e in
         let old_count = kept.count in
         record {
-          grown = record {
-            accepted = kept.grown.accepted ++ e.header ∷ [];
-            comes = grown_more limit (first_tree rules) (tree_of entries rules) kept.grown.accepted e.header kept.grown.comes fine ∙ ap (λ (t : Tree). Some t) (sym tree_next);
+          in_order = record {
+            accepted = kept.in_order.accepted ++ e.header ∷ [];
+            comes = grown_more limit (first_tree rules) (tree_of entries rules) kept.in_order.accepted e.header kept.in_order.comes fine ∙ ap (λ (t : Tree). Some t) (sym tree_next);
             listed = map_push (λ (x : Entry). x.hash) entries e
-                ∙ ap (λ (order : List Hash32). order ++ e.hash ∷ []) kept.grown.listed
-                ∙ ap (λ (h : Hash32). genesis_hash ∷ (map hash_of_header kept.grown.accepted ++ h ∷ [])) named
-                ∙ ap (λ (hs : List Hash32). genesis_hash ∷ hs) (sym (map_push hash_of_header kept.grown.accepted e.header));
+                ∙ ap (λ (order : List Hash32). order ++ e.hash ∷ []) kept.in_order.listed
+                ∙ ap (λ (h : Hash32). genesis_hash ∷ (map hash_of_header kept.in_order.accepted ++ h ∷ [])) named
+                ∙ ap (λ (hs : List Hash32). genesis_hash ∷ hs) (sym (map_push hash_of_header kept.in_order.accepted e.header));
           };
           count = ap finite.len pushed ∙ omega arith;
           some = omega arith;

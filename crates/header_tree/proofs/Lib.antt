@@ -1,10 +1,6 @@
-pub mod Chains
 pub mod Down
-pub mod Forks
 pub mod Keeping
 pub mod Members
 pub mod Sorting
-pub mod Targets
-pub mod Judging
 pub mod Adding
 pub mod Listing

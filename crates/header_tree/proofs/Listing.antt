@@ -9,7 +9,7 @@ use Rattle.base_types.specs.declared.hash.Hash32.{Hash32}
 use Rattle.base_types.specs.declared.program.Rules.{Rules}
 use Rattle.header_tree.specs.declared.entry.Entry.{Entry}
 use Rattle.header_tree.specs.Kept.{Numbers, headers_of, order_of, state_of, IsKept}
-use Rattle.header_tree.specs.State.{State, IsGrown, IsListing}
+use Rattle.header_tree.specs.State.{State, IsAcceptedInOrder, IsListing}
 use Rattle.header_tree.proofs.Down.{any_entry}
 use Rattle.header_tree.proofs.Members.{known, known_at, order_at, ordered}
 
@@ -25,7 +25,7 @@ module _ (entries : List Entry) (numbers : Numbers) (limit : ℕ) (rules : Rules
 
   listing : IsListing (headers_of entries) (order_of entries)
   listing = record {
-    first = ap (λ (order : List Hash32). slice_get order 0) kept.grown.listed;
+    first = ap (λ (order : List Hash32). slice_get order 0) kept.in_order.listed;
     all = λ hash there. found hash (get numbers hash) refl (known entries numbers limit rules kept hash ∙ there);
     only = λ n hash at.
         let x = entry_at n hash at in
@@ -37,8 +37,8 @@ module _ (entries : List Entry) (numbers : Numbers) (limit : ℕ) (rules : Rules
   }
 
   -- the same of what callers see
-  pub sees_grown : (s : State) → state_of entries limit rules ≡ s → IsGrown s
-  sees_grown s is = subst (λ (t : State). IsGrown t) is kept.grown
+  pub sees_order : (s : State) → state_of entries limit rules ≡ s → IsAcceptedInOrder s
+  sees_order s is = subst (λ (t : State). IsAcceptedInOrder t) is kept.in_order
 
   pub sees_listing : (s : State) → state_of entries limit rules ≡ s → IsListing s.tree.headers s.order
   sees_listing s is = subst (λ (t : State). IsListing t.tree.headers t.order) is listing

@@ -13,7 +13,7 @@ use Rattle.chain_model.specs.Tree.{Headers, of_member, height}
 use Rattle.header_tree.specs.declared.entry.Entry.{Entry}
 use Rattle.header_tree.specs.Kept.{Numbers, headers_of, order_of, state_of, IsKept}
 use Rattle.header_tree.specs.State.{State}
-use Rattle.header_tree.proofs.Chains.{height_is}
+use Rattle.chain_model.proofs.Chains.{height_is}
 use Rattle.header_tree.proofs.Keeping.{at_number, not_numbered, read_of, low}
 
 pub of_some : {A : Type 0} (headers : Headers) (hash : Hash32) (x : Header) (a : A) → get headers hash ≡ Some x → Some a ≡ of_member headers hash a

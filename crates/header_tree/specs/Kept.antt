@@ -8,10 +8,11 @@ use Rattle.base_types.specs.declared.hash.Hash32.{Hash32}
 use Rattle.base_types.specs.declared.program.Rules.{Rules}
 use Rattle.base_types.specs.Keys.{hash_cmp}
 use Rattle.block_codec.specs.Text.{hash_of_header}
-use Rattle.chain_model.specs.Tree.{Headers, Tree, genesis_hash}
+use Rattle.chain_model.specs.Tree.{Headers, Tree}
+use Rattle.block_codec.specs.Genesis.{genesis_hash}
 use Rattle.header_tree.specs.declared.entry.Entry.{Entry}
-use Rattle.header_tree.specs.Above.{IsAbove}
-use Rattle.header_tree.specs.State.{State, IsGrown}
+use Rattle.chain_model.specs.Above.{IsAbove}
+use Rattle.header_tree.specs.State.{State, IsAcceptedInOrder}
 
 abbrev pub Numbers : Type 0
 Numbers = FinMap hash_cmp ℕ
@@ -70,7 +71,7 @@ IsNumbered entries headers hash None = get headers hash ≡ None
 IsNumbered entries headers hash (Some number) = (e : Entry) × (slice_get entries number ≡ Some e) × (e.hash ≡ hash)
 
 pub record IsKept (entries : List Entry) (numbers : Numbers) (limit : ℕ) (rules : Rules) : Type 0 where
-  pub grown : IsGrown (state_of entries limit rules)
+  pub in_order : IsAcceptedInOrder (state_of entries limit rules)
   pub count : finite.len (headers_of entries) ≡ length entries
   pub some : 0 < length entries
   pub fits : length entries < 2 ^ 32

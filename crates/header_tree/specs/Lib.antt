@@ -1,4 +1,3 @@
-pub mod Above
 pub mod Answers
 pub mod Kept
 pub mod State

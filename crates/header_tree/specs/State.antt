@@ -9,8 +9,9 @@ use Rattle.base_types.specs.contracts.program.Rules as rules
 use Rattle.block_codec.specs.declared.block.Header.{Header}
 use Rattle.block_codec.specs.contracts.block.Header as header
 use Rattle.block_codec.specs.Text.{hash_of_header}
-use Rattle.chain_model.specs.Tree.{Headers, Tree, genesis_hash, chain}
-use Rattle.chain_model.specs.HeaderRules.{first_tree, with_header, grown}
+use Rattle.chain_model.specs.Tree.{Headers, Tree, chain}
+use Rattle.block_codec.specs.Genesis.{genesis_hash}
+use Rattle.chain_model.specs.HeaderRules.{first_tree, with_header, tree_with}
 
 -- the tree, how many headers it may hold, and the hashes in the order in which their headers were accepted
 pub record State : Type 0 where
@@ -35,9 +36,9 @@ abbrev pub after_header : State → Header → State
 after_header state header = record state { tree = with_header state.tree header; order = state.order ++ hash_of_header header ∷ [] }
 
 -- the headers of the order broke no rule in the tree before them, one after the other
-pub record IsGrown (state : State) : Type 0 where
+pub record IsAcceptedInOrder (state : State) : Type 0 where
   pub accepted : List Header
-  pub comes : grown state.limit (first_tree state.tree.rules) accepted ≡ Some state.tree
+  pub comes : tree_with state.limit (first_tree state.tree.rules) accepted ≡ Some state.tree
   pub listed : state.order ≡ genesis_hash ∷ map hash_of_header accepted
 
 -- each member of the tree stands once in the order, genesis first

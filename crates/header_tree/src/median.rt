@@ -1,4 +1,4 @@
-//! The median time of a block (BIP113).
+//! The median time of a block (BIP 113).
 
 ghost use Rattle.std.specs.Prelude.{◌≡◌, ◌<◌, ◌≤◌, length, map, take};
 ghost use Rattle.chain_model.specs.Tree.{of_member, chain, time, median, median_time as median_time_of};
@@ -7,10 +7,10 @@ ghost use Rattle.header_tree.specs.State.{hash_at, IsBefore};
 use crate::tree::Tree;
 use base_types::Hash32;
 
-/// The number of blocks whose times count.
+// The number of blocks whose times count.
 const SPAN: usize = 11;
 
-/// Of times the one in the middle, and the later of two.
+// Of times the one in the middle, and the later of two.
 fn median_of(times: &mut [u32]) -> u32
     requires { 0 < length times.old }
     ensures { result ≡ median times.old }

@@ -10,7 +10,7 @@ use std::marker::Model;
 
 /// A number for each hash. Strangers choose the hashes, so the map is ordered.
 #[derive(Drop)]
-pub struct Numbers {
+pub(crate) struct Numbers {
     map: BTreeMap<Hash32, u32>,
 }
 
@@ -30,7 +30,7 @@ impl Model for Numbers {
 
 impl Numbers {
     /// No numbers, which takes no memory.
-    pub fn new(alloc: Global) -> Self
+    pub(crate) fn new(alloc: Global) -> Self
         ensures { result ≡ finite.empty }
     {
         Numbers {
@@ -39,14 +39,14 @@ impl Numbers {
     }
 
     /// The number of a hash.
-    pub fn get(&self, hash: &Hash32) -> Option<u32>
+    pub(crate) fn get(&self, hash: &Hash32) -> Option<u32>
         ensures { result ≡ finite.get self.now hash.now }
     {
         self.map.get(hash).copied()
     }
 
     /// Gives a hash its number. Where memory runs out the numbers stay as they were.
-    pub fn insert(&mut self, hash: Hash32, number: u32) -> Result<(), AllocError>
+    pub(crate) fn insert(&mut self, hash: Hash32, number: u32) -> Result<(), AllocError>
         ensures ok { OnOk result (self.new ≡ finite.insert self.old hash number) }
         ensures err { OnErr result (self.new ≡ self.old) }
     {

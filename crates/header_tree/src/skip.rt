@@ -11,7 +11,7 @@ fn without_lowest(n: u32) -> u32
 
 /// The height to which the skip of a block of this height leads, so that a few steps lead to any height below
 /// (Bitcoin Core's `GetSkipHeight`).
-pub fn skip_height(height: u32) -> u32
+pub(crate) fn skip_height(height: u32) -> u32
     ensures value { result ≡ skip_height_of height }
     ensures lower { 0 < height → result < height }
 {

@@ -1,34 +1,18 @@
 //! The tree of headers: what it holds, and what it answers of one block.
 
-ghost use Rattle.std.specs.Prelude.{◌≡◌, ◌<◌, Some, length, slice_get, is_some, IfOk, IfSome};
+ghost use Rattle.std.specs.Prelude.{◌≡◌, ◌<◌, ◌≤◌, Some, length, slice_get, is_some, IfOk, IfSome};
 ghost use Rattle.std.specs.Option.{option_copied};
 ghost use Rattle.std.specs.FinMap as finite;
 ghost use Rattle.chain_model.specs.Tree.{of_member, height as height_of};
 ghost use Rattle.chain_model.specs.HeaderRules.{IsTree};
-ghost use Rattle.header_tree.specs.State.{first_state, IsGrown, IsListing};
+ghost use Rattle.header_tree.specs.State.{first_state, IsAcceptedInOrder, IsListing};
 
 use crate::entry::Entry;
 use crate::numbers::Numbers;
 use base_types::{Hash32, Limits, Rules};
-use block_codec::{Header, block_hash};
+use block_codec::{GENESIS, Header, genesis_hash};
 use std::alloc::{AllocError, Global};
 use std::marker::Model;
-
-/// The first header of regtest.
-const GENESIS: Header = Header {
-    version: 1,
-    prev: Hash32 { bytes: [0; 32] },
-    root: Hash32 {
-        bytes: [
-            0x3b, 0xa3, 0xed, 0xfd, 0x7a, 0x7b, 0x12, 0xb2, 0x7a, 0xc7, 0x2c, 0x3e, 0x67, 0x76,
-            0x8f, 0x61, 0x7f, 0xc8, 0x1b, 0xc3, 0x88, 0x8a, 0x51, 0x32, 0x3a, 0x9f, 0xb8, 0xaa,
-            0x4b, 0x1e, 0x5e, 0x4a,
-        ],
-    },
-    time: 1_296_688_602,
-    bits: 0x207f_ffff,
-    nonce: 2,
-};
 
 /// The headers that were accepted, genesis first. A header takes some 190 bytes.
 #[derive(Drop)]
@@ -57,9 +41,9 @@ impl Tree {
     /// The tree of genesis alone, which may hold so many headers with it, under these rules.
     pub fn new(alloc: Global, limits: &Limits, rules: &Rules) -> Result<Tree, AllocError>
         ensures first { IfOk result (λ tree. tree ≡ first_state limits.now.headers rules.now) }
-        ensures grown { IfOk result (λ tree. IsTree tree.limit tree.tree) }
+        ensures tree { IfOk result (λ tree. IsTree tree.limit tree.tree) }
     {
-        let hash = block_hash(&GENESIS);
+        let hash = genesis_hash();
         let mut entries = Vec::new(alloc);
         let mut numbers = Numbers::new(alloc);
         numbers.insert(hash, 0)?;
@@ -82,7 +66,8 @@ impl Tree {
     pub fn size(&self) -> u32
         ensures count { result ≡ finite.len self.now.tree.headers }
         ensures listed { result ≡ length self.now.order }
-        ensures grown { IsTree self.now.limit self.now.tree }
+        ensures some { 1 ≤ result }
+        ensures tree { IsTree self.now.limit self.now.tree }
     {
         self.entries.len() as u32
     }
@@ -93,7 +78,7 @@ impl Tree {
 
         // The order has each member once, and only what was accepted after what stands before it.
         ensures listing { IsListing self.now.tree.headers self.now.order }
-        ensures grown { IsGrown self.now }
+        ensures in_order { IsAcceptedInOrder self.now }
     {
         match self.entries.get(number as usize) {
             Some(entry) => Some(entry.hash),

@@ -6,7 +6,7 @@ use Rattle.chain_gen.proofs.Making.{Making-none, Making-next, failed_tip, failed
 use Rattle.chain_gen.proofs.generation.write_blocks.Goals as goal
 
 pub loop-below-init : goal.loop-below-init
-loop-below-init g c = record { making = Making-none (g.H.Host.held c.args.host.now) c.args.number c.genesis-tip.result c.genesis-tip.ensures; later = omega arith }
+loop-below-init g c = record { making = Making-none (g.H.Host.held c.args.host.now) c.args.number c.genesis_hash-tip.result c.genesis_hash-tip.ensures; later = omega arith }
 
 pub returns-in_err-block-clause-tip : goal.returns-in_err-block-clause-tip
 returns-in_err-block-clause-tip g c =

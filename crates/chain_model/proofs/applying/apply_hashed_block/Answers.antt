@@ -1,5 +1,6 @@
-use Rattle.std.proofs.Common.{◌+◌}
-use Rattle.chain_model.specs.Tree.{height}
+use Rattle.std.proofs.Common.{◌≡◌, Ok, subst}
+use Rattle.block_codec.specs.declared.block.Block.{Block}
+use Rattle.chain_model.specs.Apply.{outcome, position_below}
 use Rattle.chain_model.specs.BodyRules.{place_below}
 use Rattle.chain_model.proofs.UntouchedCoins.{untouched}
 use Rattle.chain_model.proofs.Minting.{makes_at_most}
@@ -7,8 +8,14 @@ use Rattle.chain_model.proofs.applying.apply_hashed_block.Goals as goal
 
 pub returns-in-Ok-clause-untouched : goal.returns-in-Ok-clause-untouched
 returns-in-Ok-clause-untouched g c =
-    untouched (g.T.TreeView.tree c.args.tree.now) (height (g.T.TreeView.tree c.args.tree.now).headers c.args.block.now.header.prev + 1) c.args.coins.now c.args.block.now c.apply.new.coins c.in-Ok.ensures.answers
+    let tree = g.T.TreeView.tree c.args.tree.now in
+    let block = c.args.block.now in
+    let applied = subst (λ (b : Block). outcome tree c.args.coins.now b ≡ Ok c.apply.new.coins) c.block.ensures c.in-Ok.ensures.answers in
+    untouched (position_below tree block.header.prev) c.args.coins.now block c.apply.new.coins applied
 
 pub returns-in-Ok-clause-values : goal.returns-in-Ok-clause-values
 returns-in-Ok-clause-values g c =
-    makes_at_most (g.T.TreeView.tree c.args.tree.now) (height (g.T.TreeView.tree c.args.tree.now).headers c.args.block.now.header.prev + 1) (place_below (g.T.TreeView.tree c.args.tree.now) c.args.block.now.header.prev) c.args.coins.now c.args.block.now c.apply.new.coins c.requires.stands.sound c.in-Ok.ensures.answers
+    let tree = g.T.TreeView.tree c.args.tree.now in
+    let block = c.args.block.now in
+    let applied = subst (λ (b : Block). outcome tree c.args.coins.now b ≡ Ok c.apply.new.coins) c.block.ensures c.in-Ok.ensures.answers in
+    makes_at_most (position_below tree block.header.prev) (place_below tree block.header.prev) c.args.coins.now block c.apply.new.coins c.requires.sound applied

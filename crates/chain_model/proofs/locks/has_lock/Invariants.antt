@@ -9,5 +9,5 @@ abbrev pub invariant-loop-input : goal.invariant-loop-input
 invariant-loop-input g l =
     (goal.iterator-loop-input g).can_next l.input-iterator ×
     (goal.iterator-loop-input g).is_finite l.input-iterator ×
-    (has_lock (g.T.TreeView.tree l.standing.tree.now) l.standing.parent.now l.standing.height (iter_rest (zip_first l.input-iterator)) (seen (iter_rest (zip_second l.input-iterator)))
-    ≡ has_lock (g.T.TreeView.tree l.standing.tree.now) l.standing.parent.now l.standing.height l.inputs (seen l.spent))
+    (has_lock (record { tree = g.T.TreeView.tree l.context.tree.now; parent = l.context.parent.now; at = l.context.height }) (iter_rest (zip_first l.input-iterator)) (seen (iter_rest (zip_second l.input-iterator)))
+    ≡ has_lock (record { tree = g.T.TreeView.tree l.context.tree.now; parent = l.context.parent.now; at = l.context.height }) l.inputs (seen l.spent))

@@ -1,5 +1,5 @@
 use Rattle.std.proofs.Common.{◌+◌, ◌≤◌, sym, ◌∙◌, arith}
-use Rattle.chain_model.specs.BodyRules.{max_money}
+use Rattle.base_types.specs.Parameters.{max_money}
 use Rattle.chain_model.proofs.SpentCoins.{immature_at, range_at, fine_at, value_at, coins_fine}
 use Rattle.chain_model.proofs.spending.value_of_spent.Goals as goal
 

@@ -1,5 +1,5 @@
 use Rattle.std.proofs.Common.{◌≡◌, ◌≤◌, ◌+◌, drop}
-use Rattle.chain_model.specs.BodyRules.{max_money}
+use Rattle.base_types.specs.Parameters.{max_money}
 use Rattle.chain_model.specs.Coins.{value_of_coins}
 use Rattle.chain_model.specs.Apply.{coins_broken}
 use Rattle.chain_model.specs.Seen.{seen}

@@ -1,7 +1,8 @@
 use Rattle.std.proofs.Common.{Option, Some, None, ap, sym, ◌≡◌, ◌∙◌}
 use Rattle.std.specs.Option.{option_copied}
 use Rattle.std.specs.FinMap.{get}
-use Rattle.base_types.specs.Keys.{outpoint_cmp, outpoint_cmp_total}
+use Rattle.base_types.specs.Keys.{outpoint_cmp}
+use Rattle.base_types.proofs.KeyOrders.{outpoint_cmp_total}
 use Rattle.base_types.specs.declared.coin.Coin.{Coin}
 use Rattle.chain_model.specs.Changes.{Changes}
 use Rattle.chain_model.proofs.Entries.{get_entries}

@@ -1,6 +1,7 @@
 use Rattle.std.proofs.Common.{List, Option, ap, sym, ◌∙◌}
 use Rattle.std.specs.FinMap.{entries}
-use Rattle.base_types.specs.Keys.{outpoint_cmp, outpoint_cmp_total}
+use Rattle.base_types.specs.Keys.{outpoint_cmp}
+use Rattle.base_types.proofs.KeyOrders.{outpoint_cmp_total}
 use Rattle.base_types.specs.declared.hash.OutPoint.{OutPoint}
 use Rattle.base_types.specs.declared.coin.Coin.{Coin}
 use Rattle.chain_model.specs.Changes.{Changes, changed_by}

@@ -1,6 +1,7 @@
 use Rattle.std.proofs.Common.{ap, ◌∙◌}
 use Rattle.std.specs.FinMap.{insert}
-use Rattle.base_types.specs.Keys.{outpoint_cmp, outpoint_cmp_total, outpoint_cmp-IsAntisymmetric}
+use Rattle.base_types.specs.Keys.{outpoint_cmp}
+use Rattle.base_types.proofs.KeyOrders.{outpoint_cmp_total, outpoint_cmp-IsAntisymmetric}
 use Rattle.base_types.specs.Coins.{Coins}
 use Rattle.chain_model.proofs.Entries.{put_entry}
 use Rattle.chain_model.proofs.plain.Plain.put.Goals as goal

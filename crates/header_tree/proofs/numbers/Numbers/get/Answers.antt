@@ -1,7 +1,8 @@
 use Rattle.std.proofs.Common.{ℕ, sym, ap, ◌∙◌}
 use Rattle.std.specs.FinMap as finite
-use Rattle.base_types.specs.Keys.{hash_cmp, hash_cmp_total, hash_cmp-IsAntisymmetric}
-use Rattle.base_types.specs.OrderedMaps.{get-map_of}
+use Rattle.base_types.specs.Keys.{hash_cmp}
+use Rattle.base_types.proofs.KeyOrders.{hash_cmp_total, hash_cmp-IsAntisymmetric}
+use Rattle.base_types.proofs.OrderedMaps.{get-map_of}
 use Rattle.header_tree.proofs.numbers.Numbers.get.Goals as goal
 
 pub returns : goal.returns

@@ -1,7 +1,8 @@
 use Rattle.std.proofs.Common.{ℕ, ap, ◌∙◌}
 use Rattle.std.specs.FinMap as finite
-use Rattle.base_types.specs.Keys.{hash_cmp, hash_cmp_total, hash_cmp-IsAntisymmetric}
-use Rattle.base_types.specs.OrderedMaps.{inserts}
+use Rattle.base_types.specs.Keys.{hash_cmp}
+use Rattle.base_types.proofs.KeyOrders.{hash_cmp_total, hash_cmp-IsAntisymmetric}
+use Rattle.base_types.proofs.OrderedMaps.{inserts}
 use Rattle.header_tree.proofs.numbers.Numbers.insert.Goals as goal
 
 pub returns-clause-ok : goal.returns-clause-ok

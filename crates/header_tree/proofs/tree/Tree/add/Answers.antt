@@ -27,5 +27,5 @@ invariant_of-self-2 c =
     subst (λ (es : List Entry). IsKept es c.insert.new.self c.self.inside.limit c.self.inside.rules) (sym entries)
     (subst (λ (ns : Numbers). IsKept (c.self.inside.entries.items ++ entry_of c.args.header c.args.hash c.args.parent c.ancestor_at-skip.result c.height_at-height.result ∷ []) ns c.self.inside.limit c.self.inside.rules) (sym c.in_ok-insert.ensures.ok) kept)
 
-pub returns-clause-grown : goal.returns-clause-grown
-returns-clause-grown c = is_tree (state_of _ _ _) (invariant_of-self-2 c).grown
+pub returns-clause-tree : goal.returns-clause-tree
+returns-clause-tree c = is_tree (state_of _ _ _) (invariant_of-self-2 c).in_order

@@ -1,11 +1,15 @@
-use Rattle.std.proofs.Common.{◌≡◌, Bool, ◌&&◌, None, List, reverse, sym, ap, subst, ◌∙◌, arith, le-leb}
+use Rattle.std.proofs.lemmas.Bool.Decides.{nat_tests}
+use Rattle.std.proofs.Common.{◌≡◌, ℕ, ◌<◌, Bool, false, leb, ◌&&◌, None, List, reverse, sym, ap, subst, ◌∙◌, arith, le-leb}
 use Rattle.std.specs.Prelude.{slice_get, is_some, nat_le}
 use Rattle.std.proofs.lemmas.Option.{slice_get_within, slice_get-get_or, get_or_from_slice_get}
 use Rattle.base_types.specs.declared.hash.Hash32.{Hash32}
-use Rattle.chain_model.specs.Tree.{genesis_hash, ancestor, height}
+use Rattle.block_codec.specs.Genesis.{genesis_hash}
+use Rattle.chain_model.specs.Tree.{ancestor, height}
 use Rattle.header_tree.proofs.Down.{sees_past, sees_stranger}
-use Rattle.header_tree.proofs.Judging.{leb_no}
 use Rattle.header_tree.proofs.tree.Tree.ancestor.Goals as goal
+
+leb_no : (a b : ℕ) → b < a → leb a b ≡ false
+leb_no a b less = grind (arith, nat_tests)
 
 pub returns-in_default-clause-block : goal.returns-in_default-clause-block
 returns-in_default-clause-block c = sym (ap (λ (l : List Hash32). slice_get (reverse l) c.args.height) (sees_stranger c.self.inside.entries.items c.self.inside.numbers c.self.inside.limit c.self.inside.rules c.self.invariant c.args.self.now c.self.view_is c.args.hash.now (sym c.in_default.ensures.known)))

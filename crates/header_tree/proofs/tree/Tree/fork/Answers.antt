@@ -4,19 +4,20 @@ use Rattle.std.specs.FinMap.{contains_key}
 use Rattle.std.specs.List.{find, list_any}
 use Rattle.std.proofs.lemmas.Option.{slice_get_within, slice_get-get_or, get_or_from_slice_get}
 use Rattle.base_types.specs.declared.hash.Hash32.{Hash32}
-use Rattle.chain_model.specs.Tree.{genesis_hash, chain, fork}
+use Rattle.block_codec.specs.Text.{same_hash}
+use Rattle.block_codec.specs.Genesis.{genesis_hash}
+use Rattle.chain_model.specs.Tree.{chain, fork}
 use Rattle.header_tree.specs.State.{hash_at}
-use Rattle.header_tree.proofs.Chains.{same}
 use Rattle.header_tree.proofs.Down.{never, sees_stranger, sees_level}
 use Rattle.header_tree.proofs.tree.Tree.fork.Goals as goal
 
 pub returns-in_default-clause-block : goal.returns-in_default-clause-block
 returns-in_default-clause-block c =
-    sym (ap (λ (l : List Hash32). find (λ hash. list_any (same hash) (chain c.args.self.now.tree.headers c.args.b.now)) l) (sees_stranger c.self.inside.entries.items c.self.inside.numbers c.self.inside.limit c.self.inside.rules c.self.invariant c.args.self.now c.self.view_is c.args.a.now (sym c.in_default.ensures.known)))
+    sym (ap (λ (l : List Hash32). find (λ hash. list_any (same_hash hash) (chain c.args.self.now.tree.headers c.args.b.now)) l) (sees_stranger c.self.inside.entries.items c.self.inside.numbers c.self.inside.limit c.self.inside.rules c.self.invariant c.args.self.now c.self.view_is c.args.a.now (sym c.in_default.ensures.known)))
 
 pub returns-in_default-number-clause-block : goal.returns-in_default-number-clause-block
 returns-in_default-number-clause-block c =
-    sym (ap (λ (l : List Hash32). find (λ hash. list_any (same hash) l) (chain c.args.self.now.tree.headers c.args.a.now)) (sees_stranger c.self.inside.entries.items c.self.inside.numbers c.self.inside.limit c.self.inside.rules c.self.invariant c.args.self.now c.self.view_is c.args.b.now (sym c.in_default-number.ensures.known))
+    sym (ap (λ (l : List Hash32). find (λ hash. list_any (same_hash hash) l) (chain c.args.self.now.tree.headers c.args.a.now)) (sees_stranger c.self.inside.entries.items c.self.inside.numbers c.self.inside.limit c.self.inside.rules c.self.invariant c.args.self.now c.self.view_is c.args.b.now (sym c.in_default-number.ensures.known))
     ∙ never (chain c.args.self.now.tree.headers c.args.a.now))
 
 pub height_at-requires : goal.height_at-requires

@@ -4,7 +4,7 @@ use Rattle.std.specs.FinMap as finite
 use Rattle.base_types.specs.declared.hash.Hash32.{Hash32}
 use Rattle.header_tree.specs.Kept.{headers_of}
 use Rattle.header_tree.specs.State.{State}
-use Rattle.header_tree.proofs.Chains.{same_true}
+use Rattle.chain_model.proofs.Hashes.{same_true}
 use Rattle.header_tree.proofs.Keeping.{read_at}
 use Rattle.header_tree.proofs.Members.{known, known_at, order_at, sees_ordered}
 use Rattle.header_tree.proofs.tree.Tree.number.Goals as goal

@@ -10,7 +10,7 @@ use Rattle.disk_model.specs.Disk.{Image}
 use Rattle.batch_log.specs.Records.{log, payloads_from, StartsWith}
 use Rattle.batch_log.specs.OpenLog.{OpenLog, Stands}
 use Rattle.batch_log.specs.declared.places.Place.{Place}
-use Rattle.block_store.specs.declared.kind.Kind.{Kind}
+use Rattle.block_store.specs.declared.payload_kind.PayloadKind.{PayloadKind}
 use Rattle.block_store.specs.Opening.{has_length, first_wrong}
 
 abbrev whole : List (List ℕ) → Result (List (List ℕ)) ℕ
@@ -37,18 +37,18 @@ opened_starts m file contents left opened payloads is stands named long = ⊎_el
     subst (λ (ps : List (List ℕ)). StartsWith ps (m file)) nothing (record { rest = m file; is = refl }))
     (cases_lt 1 (length (m file)))
 
-right_one : (kind : Kind) (place : Place) (b : Bool) (rest : Option Place) → cond (not b) (Some place) rest ≡ None → (b ≡ true) × (rest ≡ None)
+right_one : (kind : PayloadKind) (place : Place) (b : Bool) (rest : Option Place) → cond (not b) (Some place) rest ≡ None → (b ≡ true) × (rest ≡ None)
 right_one kind place true rest e = (refl, e)
 right_one kind place false rest e = absurd cc
 
-each_right : (kind : Kind) (places : List Place) → first_wrong kind places ≡ None → AllByRecursion (λ (p : Place). IsTrue (has_length kind p.len)) places
+each_right : (kind : PayloadKind) (places : List Place) → first_wrong kind places ≡ None → AllByRecursion (λ (p : Place). IsTrue (has_length kind p.len)) places
 each_right kind [] e = tt
 each_right kind (place ∷ places) e =
     let r = right_one kind place (has_length kind place.len) (first_wrong kind places) e in
     (r.0, each_right kind places r.1)
 
 -- where no payload has a wrong length, each has a right one
-pub none_wrong : (kind : Kind) (places : List Place) → first_wrong kind places ≡ None → All (λ (p : Place). IsTrue (has_length kind p.len)) places
+pub none_wrong : (kind : PayloadKind) (places : List Place) → first_wrong kind places ≡ None → All (λ (p : Place). IsTrue (has_length kind p.len)) places
 none_wrong kind places e = All-from_recursion (λ (p : Place). IsTrue (has_length kind p.len)) places (each_right kind places e)
 
 -- the bytes of a payload that were read

@@ -4,10 +4,11 @@ use Rattle.std.specs.Prelude.{IsTrue}
 use Rattle.std.specs.Option.{option_map}
 use Rattle.std.specs.Result.{result_ok}
 use Rattle.base_types.specs.Reading.{Input}
-use Rattle.base_types.specs.Codec.{many_at, at, ok_is}
+use Rattle.base_types.specs.Codec.{many_at, at}
+use Rattle.base_types.proofs.Codecs.{ok_is}
 use Rattle.block_codec.specs.declared.block.Header.{Header}
 use Rattle.block_codec.specs.Reading.{Wrong, header_at}
-use Rattle.block_codec.specs.BlockLaws.{header_there}
+use Rattle.block_codec.proofs.BlockLaws.{header_there}
 use Rattle.block_store.specs.Headers.{headers_of, first_headers, is_headers_length}
 
 abbrev taken : Header → Input → Result (Header × Input) Wrong

@@ -1,6 +1,9 @@
+pub mod IndexLaws
+pub mod PayloadLaws
+pub mod StoreLaws
 mod Adding
 mod Finding
-mod HashSteps
+pub mod HashSteps
 mod HeaderSteps
 mod Lookups
 mod Opened

@@ -6,7 +6,7 @@ use Rattle.base_types.specs.declared.hash.Hash32.{Hash32}
 use Rattle.batch_log.specs.OpenLog.{places_of}
 use Rattle.batch_log.specs.declared.places.Place.{Place}
 use Rattle.block_store.specs.Index.{last_place}
-use Rattle.block_store.specs.IndexLaws.{last_is}
+use Rattle.block_store.proofs.IndexLaws.{last_is}
 use Rattle.block_store.proofs.HashSteps.{as_many, of_each}
 
 one_place : (p q : Place) → Some p ≡ Some q → p ≡ q

@@ -5,13 +5,13 @@ use Rattle.std.specs.List.{AllByRecursion}
 use Rattle.std.proofs.lemmas.List.{take_all}
 use Rattle.std.proofs.lemmas.List.Elements.{All-from_recursion, All-head, All-tail}
 use Rattle.disk_model.specs.Disk.{Image, At, Torn, Leaves, Quiet, OthersKept}
-use Rattle.disk_model.specs.Moments.{IsSinceEarlier, leaves_then, leaves_wider}
+use Rattle.disk_model.proofs.Moments.{IsSinceEarlier, leaves_then, leaves_wider}
 use Rattle.batch_log.specs.Records.{SameLog, log}
 use Rattle.batch_log.specs.OpenLog.{places_of}
 use Rattle.batch_log.specs.Reading.{ReadAtMost}
 use Rattle.batch_log.specs.declared.places.Place.{Place}
-use Rattle.block_store.specs.declared.kind.Kind.TheVariants.{Headers, Bodies}
-use Rattle.block_store.specs.Opening.{InBoth, payloads_in, right_lengths, stored}
+use Rattle.block_store.specs.declared.payload_kind.PayloadKind.TheVariants.{Headers, Bodies}
+use Rattle.block_store.specs.Opening.{InBoth, payloads_in, right_lengths, stored_payloads}
 use Rattle.block_store.specs.Reading.{ReadBoth}
 
 abbrev IsStill : (List ℕ → List ℕ → Type 0) → Type 0
@@ -80,7 +80,7 @@ told_then (Some l) (Some n) m kept is =
 pub bodies_found : (m n : Image) → n 2 ≡ m 2 → payloads_in Bodies n ≡ payloads_in Bodies m
 bodies_found m n same = ap (λ (bytes : List ℕ). right_lengths Bodies (log bytes)) same
 
-pub both_found : (m : Image) (headers bodies : List (List ℕ)) → payloads_in Headers m ≡ Ok headers → payloads_in Bodies m ≡ Ok bodies → stored m ≡ Ok (headers, bodies)
+pub both_found : (m : Image) (headers bodies : List (List ℕ)) → payloads_in Headers m ≡ Ok headers → payloads_in Bodies m ≡ Ok bodies → stored_payloads m ≡ Ok (record { headers = headers; bodies = bodies })
 both_found m headers bodies h b = rw (h, b) refl
 
 each_length : (test : ℕ → Bool) (at : ℕ) (payloads : List (List ℕ)) → All (λ (p : Place). IsTrue (test p.len)) (places_of at payloads) → AllByRecursion (λ (p : List ℕ). IsTrue (test (length p))) payloads
@@ -107,6 +107,13 @@ read_both a b None None (Some now) r s = s
 read_both a b (Some before) (Some between) None r s = s
 read_both a b None (Some between) new r s = absurd r
 read_both a b (Some before) None new r s = absurd r
+
+-- the headers' file alone was read
+pub read_first : (a b : ℕ) (old new : Option (ℕ → ℕ)) → ReadAtMost 1 a old new → ReadBoth a b old new
+read_first a b None None r = tt
+read_first a b (Some before) (Some now) r = (r.0, omega (arith, r.1 2 (λ e. cc)), λ f one two. r.1 f one)
+read_first a b None (Some now) r = r
+read_first a b (Some before) None r = r
 
 pub read_more : (a b c d : ℕ) (old new : Option (ℕ → ℕ)) → a ≤ c → b ≤ d → ReadBoth a b old new → ReadBoth c d old new
 read_more a b c d None None h k r = tt

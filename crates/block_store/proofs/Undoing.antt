@@ -6,7 +6,7 @@ use Rattle.std.specs.Ordering.{is_eq}
 use Rattle.base_types.specs.Keys.{hash_cmp}
 use Rattle.base_types.specs.declared.hash.Hash32.{Hash32}
 use Rattle.block_store.specs.Index.{last_place}
-use Rattle.block_store.specs.IndexLaws.{last_push, last_none, last_contained, is_same, is_itself}
+use Rattle.block_store.proofs.IndexLaws.{last_push, last_none, last_contained, is_same, is_itself}
 
 -- each hash has its last place there
 abbrev pub Places : (Hash32 → Option ℕ) → List Hash32 → Type 0

@@ -1,8 +1,9 @@
 -- The definitions computed on small cases.
-use Rattle.std.specs.Prelude.{◌≡◌, ℕ, true, false, List, [], ◌∷◌, ◌++◌, ◌==◌, replicate, Some, None, Ok, Err, refl, pos, if◌then◌else◌}
+use Rattle.std.specs.Prelude.{◌≡◌, ℕ, true, false, List, [], ◌∷◌, ◌++◌, ◌==◌, replicate, Some, None, Result, Ok, Err, refl, pos, if◌then◌else◌}
 use Rattle.disk_model.specs.Disk.{Image}
 use Rattle.base_types.specs.Reading.{compact_at, length_at}
 use Rattle.base_types.specs.Codec.{many_at}
+use Rattle.base_types.specs.Views.{BrokenPlace}
 use Rattle.base_types.specs.declared.hash.Hash32.{Hash32}
 use Rattle.block_codec.specs.declared.block.Header.{Header}
 use Rattle.block_codec.specs.Text.{zero_hash}
@@ -10,7 +11,8 @@ use Rattle.block_codec.specs.Reading.{header_at, block_at, block_of}
 use Rattle.block_store.specs.Headers.{is_headers_length, headers_of}
 use Rattle.block_store.specs.Bodies.{body_hash, body_of}
 use Rattle.block_store.specs.Index.{last_place}
-use Rattle.block_store.specs.Opening.{stored}
+use Rattle.block_store.specs.OpenStore.{Payloads}
+use Rattle.block_store.specs.Opening.{stored_payloads}
 
 -- ---- payloads
 
@@ -72,18 +74,21 @@ two_files headers bodies f = if f == 1 then headers else if f == 2 then bodies e
 abbrev zeros : ℕ → List ℕ
 zeros n = (1 ∷ n ∷ 0 ∷ 0 ∷ 0 ∷ []) ++ replicate n 0
 
-pub one_of_each : stored (two_files (zeros 80 ++ 0 ∷ []) (zeros 32 ++ 0 ∷ [])) ≡ Ok (replicate 80 0 ∷ [], replicate 32 0 ∷ [])
+abbrev broken : ℕ → ℕ → Result Payloads BrokenPlace
+broken file at = Err (record { file = file; at = at })
+
+pub one_of_each : stored_payloads (two_files (zeros 80 ++ 0 ∷ []) (zeros 32 ++ 0 ∷ [])) ≡ Ok (record { headers = replicate 80 0 ∷ []; bodies = replicate 32 0 ∷ [] })
 one_of_each = refl
 
-pub no_files : stored (two_files [] []) ≡ Ok ([], [])
+pub no_files : stored_payloads (two_files [] []) ≡ Ok (record { headers = []; bodies = [] })
 no_files = refl
 
 -- the second header record is wrong, and so is the first body
-pub headers_first : stored (two_files (zeros 80 ++ zeros 79 ++ 0 ∷ []) (zeros 31 ++ 0 ∷ [])) ≡ Err (1, 85)
+pub headers_first : stored_payloads (two_files (zeros 80 ++ zeros 79 ++ 0 ∷ []) (zeros 31 ++ 0 ∷ [])) ≡ broken 1 85
 headers_first = refl
 
-pub short_body : stored (two_files [] (zeros 33 ++ zeros 31 ++ 0 ∷ [])) ≡ Err (2, 38)
+pub short_body : stored_payloads (two_files [] (zeros 33 ++ zeros 31 ++ 0 ∷ [])) ≡ broken 2 38
 short_body = refl
 
-pub no_closing_gate : stored (two_files [] (zeros 33)) ≡ Err (2, 0)
+pub no_closing_gate : stored_payloads (two_files [] (zeros 33)) ≡ broken 2 0
 no_closing_gate = refl

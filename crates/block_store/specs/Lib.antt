@@ -2,9 +2,6 @@ pub mod Bodies
 pub mod Examples
 pub mod Headers
 pub mod Index
-pub mod IndexLaws
 pub mod OpenStore
 pub mod Opening
-pub mod PayloadLaws
 pub mod Reading
-pub mod StoreLaws

@@ -1,52 +1,62 @@
 -- What opening finds in the two files.
 use Rattle.std.specs.Prelude.{◌≡◌, ◌≢◌, ◌⊎◌, ⊤, ℕ, Bool, not, List, find, Option, Some, None, Result, Ok, Err, nat_le}
 use Rattle.base_types.specs.Reading.{◌>>=◌}
+use Rattle.base_types.specs.Views.{BrokenPlace}
 use Rattle.base_types.specs.declared.fault.StoreFault.{StoreFault}
 use Rattle.base_types.specs.declared.fault.StoreFault.TheVariants.{NoMemory, DiskFailed, Damaged, Full, CacheFull}
 use Rattle.disk_model.specs.Disk.{Image, BothTold, Rose}
 use Rattle.batch_log.specs.Records.{log}
 use Rattle.batch_log.specs.OpenLog.{places_of}
 use Rattle.batch_log.specs.declared.places.Place.{Place}
-use Rattle.block_store.specs.declared.kind.Kind.{Kind}
-use Rattle.block_store.specs.declared.kind.Kind.TheVariants.{Headers, Bodies}
+use Rattle.block_store.specs.declared.payload_kind.PayloadKind.{PayloadKind}
+use Rattle.block_store.specs.declared.payload_kind.PayloadKind.TheVariants.{Headers, Bodies}
 use Rattle.block_store.specs.Headers.{is_headers_length}
+use Rattle.block_store.specs.OpenStore.{OpenStore, Payloads, Holds}
 
 -- the number of the file
-abbrev pub file_of : Kind → ℕ
+abbrev pub file_of : PayloadKind → ℕ
 file_of Headers = 1
 file_of Bodies = 2
 
 -- whether a payload may have so many bytes
-abbrev pub has_length : Kind → ℕ → Bool
+abbrev pub has_length : PayloadKind → ℕ → Bool
 has_length Headers n = is_headers_length n
 has_length Bodies n = nat_le 32 n
 
 -- the first payload of a wrong length
-abbrev pub first_wrong : Kind → List Place → Option Place
+abbrev pub first_wrong : PayloadKind → List Place → Option Place
 first_wrong kind places = find (λ place. not (has_length kind place.len)) places
 
-abbrev pub unless_wrong : Kind → Option Place → List (List ℕ) → Result (List (List ℕ)) (ℕ × ℕ)
+abbrev pub unless_wrong : PayloadKind → Option Place → List (List ℕ) → Result (List (List ℕ)) BrokenPlace
 unless_wrong kind None payloads = Ok payloads
-unless_wrong kind (Some place) payloads = Err (file_of kind, place.at)
+unless_wrong kind (Some place) payloads = Err (record { file = file_of kind; at = place.at })
 
-abbrev pub right_lengths : Kind → Result (List (List ℕ)) ℕ → Result (List (List ℕ)) (ℕ × ℕ)
+abbrev pub right_lengths : PayloadKind → Result (List (List ℕ)) ℕ → Result (List (List ℕ)) BrokenPlace
 right_lengths kind (Ok payloads) = unless_wrong kind (first_wrong kind (places_of 0 payloads)) payloads
-right_lengths kind (Err gate) = Err (file_of kind, gate)
+right_lengths kind (Err gate) = Err (record { file = file_of kind; at = gate })
 
--- the payloads of a file, each of a right length, or the file and the gate that are damaged
-abbrev pub payloads_in : Kind → Image → Result (List (List ℕ)) (ℕ × ℕ)
+-- the payloads of a file, each of a right length, or the place that is damaged
+abbrev pub payloads_in : PayloadKind → Image → Result (List (List ℕ)) BrokenPlace
 payloads_in kind image = right_lengths kind (log (image (file_of kind)))
 
 -- the payloads of both files, or the first damage, that of the headers before that of the bodies
-abbrev pub stored : Image → Result (List (List ℕ) × List (List ℕ)) (ℕ × ℕ)
-stored image = do
+abbrev pub stored_payloads : Image → Result Payloads BrokenPlace
+stored_payloads image = do
   headers ← payloads_in Headers image
   bodies ← payloads_in Bodies image
-  Ok (headers, bodies)
+  Ok (record { headers = headers; bodies = bodies })
+
+-- a store is opened: it holds the payloads that the logs of its two files had
+pub record OpensAs (before : Image) (contents : Option Image) (left : Image → Type 0) (store : OpenStore) : Type 0 where
+  pub payloads : Payloads
+  pub found : stored_payloads before ≡ Ok payloads
+  pub header_log : log (before 1) ≡ Ok payloads.headers
+  pub body_log : log (before 2) ≡ Ok payloads.bodies
+  pub holds : Holds contents left store payloads
 
 -- where damage is answered, it is this
-abbrev pub DamagedAs : {A : Type 0} → Result A (ℕ × ℕ) → StoreFault → Type 0
-DamagedAs found (Damaged file at) = found ≡ Err (file, at)
+abbrev pub DamagedAs : {A : Type 0} → Result A BrokenPlace → StoreFault → Type 0
+DamagedAs found (Damaged file at) = found ≡ Err (record { file = file; at = at })
 DamagedAs found NoMemory = ⊤
 DamagedAs found DiskFailed = ⊤
 DamagedAs found (Full file) = ⊤

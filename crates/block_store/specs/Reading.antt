@@ -4,7 +4,7 @@ use Rattle.std.specs.Option.{option_and_then}
 use Rattle.std.specs.Result.{result_ok}
 use Rattle.base_types.specs.declared.fault.StoreFault.{StoreFault}
 use Rattle.base_types.specs.declared.fault.StoreFault.TheVariants.{NoMemory, DiskFailed, Damaged, Full, CacheFull}
-use Rattle.disk_model.specs.Disk.{Rose}
+use Rattle.batch_log.specs.Reading.{ReadCause}
 use Rattle.batch_log.specs.declared.places.Place.{Place}
 use Rattle.block_codec.specs.declared.block.Block.{Block}
 use Rattle.block_codec.specs.Reading.{block_of}
@@ -32,10 +32,7 @@ OnDamaged CacheFull P = ⊤
 -- why a record may not be read
 abbrev pub FetchCause : ℕ → ℕ → ℕ → ℕ → StoreFault → Type 0
 FetchCause file gate before now NoMemory = ⊤
-FetchCause file gate before now DiskFailed = Rose before now
-FetchCause file gate before now (Damaged f at) = (f ≡ file) × (at ≡ gate)
-FetchCause file gate before now (Full f) = ⊥
-FetchCause file gate before now CacheFull = ⊥
+FetchCause file gate before now fault = ReadCause file gate before now fault
 
 -- at most so many bytes of the two files were read, and none of others, where the disk tells it
 abbrev pub ReadBoth : ℕ → ℕ → Option (ℕ → ℕ) → Option (ℕ → ℕ) → Type 0

@@ -11,7 +11,7 @@ use std::marker::Model;
 
 /// The hash of each body. Clauses see the list of them.
 #[derive(Drop)]
-pub struct BodyIndex {
+pub(crate) struct BodyIndex {
     hashes: Vec<Hash32>,
     // The place of the last body of a hash. Strangers choose the hashes, so the map is ordered.
     last: BTreeMap<Hash32, usize>,
@@ -33,7 +33,7 @@ impl Model for BodyIndex {
 
 impl BodyIndex {
     /// No bodies, which takes no memory.
-    pub fn new(alloc: Global) -> Self
+    pub(crate) fn new(alloc: Global) -> Self
         ensures { result ≡ [] }
     {
         BodyIndex {
@@ -43,28 +43,28 @@ impl BodyIndex {
     }
 
     /// The place of the last body of this hash.
-    pub fn last(&self, hash: &Hash32) -> Option<usize>
+    pub(crate) fn last(&self, hash: &Hash32) -> Option<usize>
         ensures { result ≡ last_place self.now hash.now }
     {
         self.last.get(hash).copied()
     }
 
     /// Whether there is a body of this hash.
-    pub fn contains(&self, hash: &Hash32) -> bool
+    pub(crate) fn contains(&self, hash: &Hash32) -> bool
         ensures { result ≡ is_some (last_place self.now hash.now) }
     {
         self.last.contains_key(hash)
     }
 
     /// The hashes of the bodies.
-    pub fn hashes(&self) -> &[Hash32]
+    pub(crate) fn hashes(&self) -> &[Hash32]
         ensures { result.now ≡ self.now }
     {
         &self.hashes
     }
 
     /// Adds the hash of a further body. Answers which body counted for it before.
-    pub fn add(&mut self, hash: Hash32) -> Result<Option<usize>, AllocError>
+    pub(crate) fn add(&mut self, hash: Hash32) -> Result<Option<usize>, AllocError>
         ensures ok { IfOk result (λ before. (self.new ≡ self.old ++ hash ∷ []) × (before ≡ last_place self.old hash)) }
         ensures err { OnErr result (self.new ≡ self.old) }
         ensures whole { length hash.bytes ≡ 32 }
@@ -81,7 +81,7 @@ impl BodyIndex {
     }
 
     /// Takes the hash that was added last away again, given which body counted for it before.
-    pub fn take_back(&mut self, hash: Hash32, before: Option<usize>)
+    pub(crate) fn take_back(&mut self, hash: Hash32, before: Option<usize>)
         requires { (hashes : List Hash32) × (self.old ≡ hashes ++ hash ∷ []) × (before ≡ last_place hashes hash) }
         ensures { (hashes : List Hash32) → self.old ≡ hashes ++ hash ∷ [] → self.new ≡ hashes }
     {

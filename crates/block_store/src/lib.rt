@@ -3,13 +3,16 @@
 
 mod body_index;
 mod header_list;
-mod kind;
 mod opening;
+mod payload_kind;
 mod payloads;
+mod ranges;
 mod records;
 mod store;
 
 pub use header_list::{HeaderList, HeaderRecord};
+pub use payloads::payload_headers;
+pub use records::read_payload;
 pub use store::BlockStore;
 
 #[cfg(test)]

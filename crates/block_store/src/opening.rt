@@ -2,7 +2,7 @@
 
 ghost use Rattle.std.specs.Prelude.{◌≡◌, ◌+◌, ◌*◌, ◌-◌, ◌^◌, ◌≤◌, ℕ, All, IsTrue, IfOk, IfErr, OnErr, List, Some, map, length, Ok};
 ghost use Rattle.disk_model.specs.Disk.{At, Torn, Leaves, Quiet, OthersKept};
-ghost use Rattle.batch_log.specs.Records.{SameLog, StartsWith};
+ghost use Rattle.batch_log.specs.Records.{log as log_of, SameLog, StartsWith};
 ghost use Rattle.batch_log.specs.OpenLog.{Stands};
 ghost use Rattle.batch_log.specs.Reading.{ReadAtMost};
 ghost use Rattle.block_store.specs.Bodies.{body_hash};
@@ -11,14 +11,14 @@ ghost use Rattle.block_store.specs.Opening.{file_of, has_length, first_wrong, pa
 ghost use Rattle.block_store.specs.Reading.{NoDamage};
 
 use crate::body_index::BodyIndex;
-use crate::kind::Kind;
+use crate::payload_kind::PayloadKind;
 use base_types::{Hash32, Limits, StoreFault};
 use batch_log::{Log, Place};
 use disk_model::Disk;
 use std::alloc::Global;
 
 // The first payload of a wrong length.
-fn first_wrong_place(kind: Kind, places: &[Place]) -> Option<Place>
+fn first_wrong_place(kind: PayloadKind, places: &[Place]) -> Option<Place>
     ensures { result ≡ first_wrong kind places.now }
 {
     places
@@ -28,15 +28,15 @@ fn first_wrong_place(kind: Kind, places: &[Place]) -> Option<Place>
 }
 
 /// Opens the log of one of the files, each of whose payloads must have a right length.
-pub fn open_log<D: Disk>(
+pub(crate) fn open_log<D: Disk>(
     alloc: Global,
     disk: &mut D,
-    kind: Kind,
+    kind: PayloadKind,
     limits: &Limits,
 ) -> Result<Log, StoreFault>
     requires { limits.now.file_bytes ≤ 2 ^ 63 }
     ensures ok { (m : ℕ → List ℕ) → D.contents disk.old ≡ Some m
-        → IfOk result (λ log. (payloads : List (List ℕ)) × (payloads_in kind m ≡ Ok payloads) × Stands (D.contents disk.new) (D.left_since disk.new (D.time disk.new)) log payloads × StartsWith payloads (m (file_of kind))) }
+        → IfOk result (λ log. (payloads : List (List ℕ)) × (payloads_in kind m ≡ Ok payloads) × Stands (D.contents disk.new) (D.left_since disk.new (D.time disk.new)) log payloads × StartsWith payloads (m (file_of kind)) × (log_of (m (file_of kind)) ≡ Ok payloads)) }
     ensures damaged { (m : ℕ → List ℕ) → D.contents disk.old ≡ Some m → IfErr result (DamagedAs (payloads_in kind m)) }
     ensures named { IfOk result (λ log. (log.file ≡ file_of kind) × (log.limit ≡ limits.now.file_bytes)) }
     ensures lengths { IfOk result (λ log. All (λ place. IsTrue (has_length kind place.len)) log.places) }
@@ -60,7 +60,7 @@ pub fn open_log<D: Disk>(
 }
 
 /// Reads the hash that each body carries.
-pub fn read_hashes<D: Disk>(
+pub(crate) fn read_hashes<D: Disk>(
     alloc: Global,
     disk: &mut D,
     bodies: &Log,

@@ -11,7 +11,7 @@ ghost use Rattle.block_store.specs.Bodies.{body_of};
 ghost use Rattle.block_store.specs.Reading.{whole_part, block_there, OnDamaged, FetchCause, NoDamage};
 
 use crate::header_list::HeaderRecord;
-use crate::kind::{HASH_LEN, Kind};
+use crate::payload_kind::{HASH_LEN, PayloadKind};
 use crate::payloads::read_headers;
 use base_types::StoreFault;
 use batch_log::{Log, Place};
@@ -19,7 +19,7 @@ use block_codec::{Block, BlockFault, read_block};
 use disk_model::Disk;
 use std::alloc::Global;
 
-/// Reads the bytes of a payload from this one on, with one device call.
+/// Reads the bytes of a payload from this one on, with one device call. `Damaged` where fewer bytes came.
 pub fn read_payload<D: Disk>(
     alloc: Global,
     disk: &mut D,
@@ -46,14 +46,14 @@ pub fn read_payload<D: Disk>(
 }
 
 /// The place of a payload, counted from 0.
-pub fn place_at(log: &Log, number: u64) -> Option<Place>
+pub(crate) fn place_at(log: &Log, number: u64) -> Option<Place>
     ensures { result ≡ slice_get log.now.places number }
 {
     log.places().get(number as usize).copied()
 }
 
 /// Reads the headers of a record, of a right length.
-pub fn read_record<D: Disk>(
+pub(crate) fn read_record<D: Disk>(
     alloc: Global,
     disk: &mut D,
     log: &Log,
@@ -81,7 +81,7 @@ pub fn read_record<D: Disk>(
 }
 
 /// Reads the block behind the hash of a body.
-pub fn read_body<D: Disk>(
+pub(crate) fn read_body<D: Disk>(
     alloc: Global,
     disk: &mut D,
     log: &Log,
@@ -106,7 +106,7 @@ pub fn read_body<D: Disk>(
         Ok(block) => Ok(Some(block)),
         Err(BlockFault::NoMemory) => Err(StoreFault::NoMemory),
         Err(BlockFault::Bad { .. }) => Err(StoreFault::Damaged {
-            file: Kind::Bodies.file(),
+            file: PayloadKind::Bodies.file(),
             at: place.at,
         }),
     }

@@ -9,13 +9,13 @@ ghost use Rattle.batch_log.specs.Reading.{ReadAtMost};
 ghost use Rattle.batch_log.specs.declared.places.Place.{Place};
 ghost use Rattle.block_codec.specs.Text.{text_of};
 ghost use Rattle.block_store.specs.Headers.{headers_text, headers_of};
-ghost use Rattle.block_store.specs.Bodies.{body_text, body_of};
+ghost use Rattle.block_store.specs.Bodies.{body_text, body_hash, body_of};
 ghost use Rattle.block_store.specs.Reading.{whole_part, block_there, OnDamaged, FetchCause, NoDamage, ReadBoth};
 
 use crate::body_index::BodyIndex;
 use crate::header_list::HeaderRecord;
-use crate::kind::Kind;
 use crate::opening::{open_log, read_hashes};
+use crate::payload_kind::PayloadKind;
 use crate::payloads::{write_body, write_headers};
 use crate::records::{place_at, read_body, read_record};
 use base_types::{Hash32, Limits, StoreFault};
@@ -33,7 +33,7 @@ pub struct BlockStore {
     headers: Log,
     bodies: Log,
     index: BodyIndex,
-    // The payload that is written.
+    // The payload that is written, in its record.
     text: Vec<u8>,
 }
 
@@ -51,10 +51,10 @@ impl Model for BlockStore {
 }
 
 impl BlockStore {
-    ghost use Rattle.batch_log.specs.OpenLog.{Unchanged, IsOver, AppendCause};
+    ghost use Rattle.batch_log.specs.OpenLog.{SameFile, Unchanged, IsOver, AppendCause};
     ghost use Rattle.block_store.specs.Index.{last_place};
-    ghost use Rattle.block_store.specs.OpenStore.{Holds, SameStore};
-    ghost use Rattle.block_store.specs.Opening.{stored, DamagedAs, OpenCause, InBoth, OthersKeptBoth};
+    ghost use Rattle.block_store.specs.OpenStore.{Payloads, with_headers, with_body, Holds, SameStore};
+    ghost use Rattle.block_store.specs.Opening.{stored_payloads, OpensAs, DamagedAs, OpenCause, InBoth, OthersKeptBoth};
 
     /// Opens the files 1, of headers, and 2, of bodies. It reads the gates and lengths of their records, and of each body
     /// the hash. `Damaged` names the first record that isn't whole, or has a payload of a wrong length: headers have 1 to
@@ -66,9 +66,8 @@ impl BlockStore {
     ) -> Result<BlockStore, StoreFault>
         requires { limits.now.file_bytes ≤ 2 ^ 63 }
         ensures ok { (m : ℕ → List ℕ) → D.contents disk.old ≡ Some m
-            → IfOk result (λ store. (header_payloads body_payloads : List (List ℕ)) × (stored m ≡ Ok (header_payloads, body_payloads))
-            × Holds (D.contents disk.new) (D.left_since disk.new (D.time disk.new)) store header_payloads body_payloads) }
-        ensures damaged { (m : ℕ → List ℕ) → D.contents disk.old ≡ Some m → IfErr result (DamagedAs (stored m)) }
+            → IfOk result (OpensAs m (D.contents disk.new) (D.left_since disk.new (D.time disk.new))) }
+        ensures damaged { (m : ℕ → List ℕ) → D.contents disk.old ≡ Some m → IfErr result (DamagedAs (stored_payloads m)) }
         ensures named { IfOk result (λ store. (store.headers.file ≡ 1) × (store.headers.limit ≡ limits.now.file_bytes) × (store.bodies.file ≡ 2) × (store.bodies.limit ≡ limits.now.file_bytes)) }
         ensures cause { IfErr result (OpenCause (D.faults disk.old) (D.faults disk.new)) }
         ensures faults { D.faults disk.old ≤ D.faults disk.new }
@@ -83,11 +82,11 @@ impl BlockStore {
         // It reads at most five bytes for each record of headers and 37 for each body, and five more of each file.
         ensures read { IfOk result (λ store. ReadBoth (5 * length store.headers.places + 5) (37 * length store.bodies.places + 5) (D.bytes_read disk.old) (D.bytes_read disk.new)) }
         ensures read_err { (m : ℕ → List ℕ) → D.contents disk.old ≡ Some m
-            → OnErr result ((header_payloads body_payloads : List (List ℕ)) × StartsWith header_payloads (m 1) × StartsWith body_payloads (m 2)
-            × ReadBoth (5 * length header_payloads + 5) (37 * length body_payloads + 5) (D.bytes_read disk.old) (D.bytes_read disk.new)) }
+            → OnErr result ((payloads : Payloads) × StartsWith payloads.headers (m 1) × StartsWith payloads.bodies (m 2)
+            × ReadBoth (5 * length payloads.headers + 5) (37 * length payloads.bodies + 5) (D.bytes_read disk.old) (D.bytes_read disk.new)) }
     {
-        let headers = open_log(alloc, disk, Kind::Headers, limits)?;
-        let bodies = open_log(alloc, disk, Kind::Bodies, limits)?;
+        let headers = open_log(alloc, disk, PayloadKind::Headers, limits)?;
+        let bodies = open_log(alloc, disk, PayloadKind::Bodies, limits)?;
         let index = read_hashes(alloc, disk, &bodies)?;
         Ok(BlockStore {
             alloc,
@@ -106,10 +105,10 @@ impl BlockStore {
     ) -> Result<(), StoreFault>
         requires some { 1 ≤ length headers.now }
         requires few { length headers.now ≤ 1000 }
-        ensures ok { (header_payloads body_payloads : List (List ℕ)) → Holds (D.contents disk.old) (D.left_since disk.old (D.time disk.old)) self.old header_payloads body_payloads
-            → OnOk result (Holds (D.contents disk.new) (D.left_since disk.new (D.time disk.new)) self.new (header_payloads ++ headers_text headers.now ∷ []) body_payloads) }
-        ensures any_moment { (header_payloads body_payloads : List (List ℕ)) → Holds (D.contents disk.old) (D.left_since disk.old (D.time disk.old)) self.old header_payloads body_payloads
-            → Leaves D.time D.left_since (At 1 (WithOrWithout header_payloads (headers_text headers.now))) disk.old disk.new }
+        ensures ok { (payloads : Payloads) → Holds (D.contents disk.old) (D.left_since disk.old (D.time disk.old)) self.old payloads
+            → OnOk result (Holds (D.contents disk.new) (D.left_since disk.new (D.time disk.new)) self.new (with_headers payloads (headers_text headers.now))) }
+        ensures any_moment { (payloads : Payloads) → Holds (D.contents disk.old) (D.left_since disk.old (D.time disk.old)) self.old payloads
+            → Leaves D.time D.left_since (At 1 (WithOrWithout payloads.headers (headers_text headers.now))) disk.old disk.new }
 
         // Whatever is known of the file, it changes only where the record and the closing gate stand, and other files stay.
         ensures part { Leaves D.time D.left_since (At 1 (Torn self.old.headers.end (6 + 80 * length headers.now))) disk.old disk.new }
@@ -117,6 +116,7 @@ impl BlockStore {
         ensures read { D.bytes_read disk.new ≡ D.bytes_read disk.old }
         ensures listed { OnOk result (self.new.headers.places ≡ self.old.headers.places ++ record { at = self.old.headers.end; len = 80 * length headers.now } ∷ []) }
         ensures end { OnOk result (self.new.headers.end ≡ self.old.headers.end + (5 + 80 * length headers.now)) }
+        ensures same { SameFile self.old.headers self.new.headers }
         ensures bodies { (self.new.bodies ≡ self.old.bodies) × (self.new.hashes ≡ self.old.hashes) }
         ensures err { OnErr result (SameStore self.old self.new) }
         ensures full { IsOver self.old.headers (5 + 80 * length headers.now) → (result ≡ Err (Full 1)) ⊎ (result ≡ Err NoMemory) }
@@ -125,23 +125,27 @@ impl BlockStore {
 
         // But for a failure of the disk, an error comes before the first device call.
         ensures before { IfErr result (λ e. e ≢ Failed → disk.new ≡ disk.old) }
+
+        // The payload is read back as these headers.
+        ensures again { headers_of (headers_text headers.now) ≡ Some headers.now }
     {
         write_headers(&mut self.text, headers)?;
-        self.headers.append(disk, &self.text)
+        self.headers.append_in_place(disk, &mut self.text)
     }
 
     /// Adds a body under the hash of its block, which counts for the hash from then on. `Full` where the file would grow
-    /// beyond its limit.
+    /// beyond its limit. Each block that was read has a text. One that has none, with a list or a script of more than
+    /// 33,554,432 or with outputs and no input, is put as its fields are spelled, and isn't read back.
     pub fn put_body<D: Disk>(
         &mut self,
         disk: &mut D,
         hash: &Hash32,
         block: &Block,
     ) -> Result<(), StoreFault>
-        ensures ok { (header_payloads body_payloads : List (List ℕ)) → Holds (D.contents disk.old) (D.left_since disk.old (D.time disk.old)) self.old header_payloads body_payloads
-            → OnOk result (Holds (D.contents disk.new) (D.left_since disk.new (D.time disk.new)) self.new header_payloads (body_payloads ++ body_text hash.now block.now ∷ [])) }
-        ensures any_moment { (header_payloads body_payloads : List (List ℕ)) → Holds (D.contents disk.old) (D.left_since disk.old (D.time disk.old)) self.old header_payloads body_payloads
-            → Leaves D.time D.left_since (At 2 (WithOrWithout body_payloads (body_text hash.now block.now))) disk.old disk.new }
+        ensures ok { (payloads : Payloads) → Holds (D.contents disk.old) (D.left_since disk.old (D.time disk.old)) self.old payloads
+            → OnOk result (Holds (D.contents disk.new) (D.left_since disk.new (D.time disk.new)) self.new (with_body payloads (body_text hash.now block.now))) }
+        ensures any_moment { (payloads : Payloads) → Holds (D.contents disk.old) (D.left_since disk.old (D.time disk.old)) self.old payloads
+            → Leaves D.time D.left_since (At 2 (WithOrWithout payloads.bodies (body_text hash.now block.now))) disk.old disk.new }
 
         // Whatever is known of the file, it changes only where the record and the closing gate stand, and other files stay.
         ensures part { Leaves D.time D.left_since (At 2 (Torn self.old.bodies.end (6 + length (body_text hash.now block.now)))) disk.old disk.new }
@@ -150,6 +154,7 @@ impl BlockStore {
         ensures listed { OnOk result (self.new.bodies.places ≡ self.old.bodies.places ++ record { at = self.old.bodies.end; len = length (body_text hash.now block.now) } ∷ []) }
         ensures end { OnOk result (self.new.bodies.end ≡ self.old.bodies.end + (5 + length (body_text hash.now block.now))) }
         ensures hashes { OnOk result (self.new.hashes ≡ self.old.hashes ++ hash.now ∷ []) }
+        ensures same { SameFile self.old.bodies self.new.bodies }
         ensures headers { self.new.headers ≡ self.old.headers }
         ensures err { OnErr result (SameStore self.old self.new) }
         ensures full { IsOver self.old.bodies (5 + length (body_text hash.now block.now)) ⊎ (2 ^ 32 ≤ length (body_text hash.now block.now)) → (result ≡ Err (Full 2)) ⊎ (result ≡ Err NoMemory) }
@@ -158,10 +163,14 @@ impl BlockStore {
 
         // But for a failure of the disk, an error comes before the first device call.
         ensures before { IfErr result (λ e. e ≢ Failed → disk.new ≡ disk.old) }
+
+        // The payload carries the hash, and where the block has a text, it is read back as this block.
+        ensures carries { body_hash (body_text hash.now block.now) ≡ Some hash.now }
+        ensures again { (text : List ℕ) → text_of block.now ≡ Some text → body_of (body_text hash.now block.now) ≡ Some block.now }
     {
         write_body(&mut self.text, hash, block)?;
         let before = self.index.add(*hash)?;
-        let added = self.bodies.append(disk, &self.text);
+        let added = self.bodies.append_in_place(disk, &mut self.text);
         if added.is_err() {
             self.index.take_back(*hash, before);
         }
@@ -182,8 +191,8 @@ impl BlockStore {
             → Told (D.contents disk.old) (λ m. IfOk result (λ found. IsSomeAnd found (λ here. (option_and_then headers_of (whole_part place 0 (m 1)) ≡ Some here.headers) × (here.at ≡ place.at)))) }
         ensures damaged { (place : Place) → slice_get self.now.headers.places number ≡ Some place
             → Told (D.contents disk.old) (λ m. IfErr result (λ fault. OnDamaged fault (whole_part place 0 (m 1) ≡ None))) }
-        ensures payload { (header_payloads body_payloads : List (List ℕ)) (payload : List ℕ) → Holds (D.contents disk.old) (D.left_since disk.old (D.time disk.old)) self.now header_payloads body_payloads
-            → slice_get header_payloads number ≡ Some payload → IfOk result (λ found. IsSomeAnd found (λ here. headers_of payload ≡ Some here.headers)) × IfErr result NoDamage }
+        ensures payload { (payloads : Payloads) (payload : List ℕ) → Holds (D.contents disk.old) (D.left_since disk.old (D.time disk.old)) self.now payloads
+            → slice_get payloads.headers number ≡ Some payload → IfOk result (λ found. IsSomeAnd found (λ here. headers_of payload ≡ Some here.headers)) × IfErr result NoDamage }
         ensures cause { (place : Place) → slice_get self.now.headers.places number ≡ Some place
             → IfOk result IsSome × IfErr result (FetchCause 1 place.at (D.faults disk.old) (D.faults disk.new)) }
         ensures faults { D.faults disk.old ≤ D.faults disk.new }
@@ -206,8 +215,8 @@ impl BlockStore {
         ensures found { (number : ℕ) (place : Place) → last_place self.now.hashes hash.now ≡ Some number → slice_get self.now.bodies.places number ≡ Some place
             → Told (D.contents disk.old) (λ m. MatchResult result (λ found. (block_there place (m 2) ≡ found) × IsSomeAnd found (λ block. text_of block ≡ whole_part place 32 (m 2)))
             (λ fault. OnDamaged fault (block_there place (m 2) ≡ None))) }
-        ensures payload { (header_payloads body_payloads : List (List ℕ)) (number : ℕ) (payload : List ℕ) → Holds (D.contents disk.old) (D.left_since disk.old (D.time disk.old)) self.now header_payloads body_payloads
-            → last_place self.now.hashes hash.now ≡ Some number → slice_get body_payloads number ≡ Some payload
+        ensures payload { (payloads : Payloads) (number : ℕ) (payload : List ℕ) → Holds (D.contents disk.old) (D.left_since disk.old (D.time disk.old)) self.now payloads
+            → last_place self.now.hashes hash.now ≡ Some number → slice_get payloads.bodies number ≡ Some payload
             → MatchResult result (λ found. body_of payload ≡ found) (λ fault. OnDamaged fault (body_of payload ≡ None)) }
         ensures cause { (number : ℕ) (place : Place) → last_place self.now.hashes hash.now ≡ Some number → slice_get self.now.bodies.places number ≡ Some place
             → IfOk result IsSome × IfErr result (FetchCause 2 place.at (D.faults disk.old) (D.faults disk.new)) }

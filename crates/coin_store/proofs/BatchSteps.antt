@@ -9,6 +9,8 @@ use Rattle.std.proofs.lemmas.List.{length-append, length-take, length-drop, drop
 use Rattle.std.proofs.lemmas.List.Concat.{flat_map-append}
 use borrow.Rule.Slice.PartMut.{put_mid, same_len_mid}
 use Rattle.base_types.specs.declared.coin.Coin.{Coin}
+use Rattle.base_types.specs.Obfuscation.{obfuscated}
+use Rattle.base_types.proofs.Obfuscated.{length-obfuscated}
 use Rattle.coin_codec.specs.KeyText.{key_text}
 use Rattle.coin_store.specs.declared.marker.Marker.{Marker}
 use Rattle.coin_store.specs.declared.places.CoinPlace.{CoinPlace}
@@ -16,14 +18,14 @@ use Rattle.coin_store.specs.declared.row.RowHead.{RowHead}
 use Rattle.coin_store.specs.declared.row.RowFault.{RowFault}
 use Rattle.coin_store.specs.declared.row.RowFault.TheVariants.{NoMemory, Broken}
 use Rattle.coin_store.specs.Base.{has_coin, base_of}
-use Rattle.coin_store.specs.BaseLaws.{base_short, base_stuck}
-use Rattle.coin_store.specs.Batches.{Row, covered, value_text, head_text, row_text, rows_text, marker_text, batch_text, RowFits, ValueFits}
-use Rattle.coin_store.specs.BatchLaws.{marker_takes, rows_stuck, batch_stuck}
+use Rattle.coin_store.proofs.BaseLaws.{base_short, base_stuck}
+use Rattle.coin_store.specs.Batches.{Row, value_text, head_text, row_text, rows_text, marker_text, batch_text, RowFits, ValueFits}
+use Rattle.coin_store.proofs.BatchLaws.{marker_takes, rows_stuck, batch_stuck}
 use Rattle.coin_store.specs.BatchReads.{NotesRow, HasRows, HasBatch, HasBaseRows, IsReadTo}
 use Rattle.coin_store.specs.Places.{CoinPlaces, put, place_of, places_after_rows}
 use Rattle.coin_store.specs.Reading.{marker_of, row_of, rows_of, batch_of}
-use Rattle.coin_store.specs.RowLaws.{length-coin_text, length-covered}
-use Rattle.coin_store.specs.Rows.{IsRow, IsBroken, IsBrokenBy}
+use Rattle.coin_store.proofs.RowLaws.{length-coin_text}
+use Rattle.coin_store.specs.Rows.{IsRow, IsBrokenBy}
 
 -- ---- one row's place
 
@@ -70,7 +72,7 @@ text_push mask rows row = flat_map-append (row_text mask) rows (row ∷ []) ∙ 
 
 length_row : (mask : List ℕ) (row : Row) → length (row_text mask row) ≡ length (head_text row.key (length (value_text row.coin))) + length (value_text row.coin)
 unfolding row_text
-length_row mask row = omega (arith, length-append (head_text row.key (length (value_text row.coin))) (covered mask (value_text row.coin)), length-covered 0 mask (value_text row.coin))
+length_row mask row = omega (arith, length-append (head_text row.key (length (value_text row.coin))) (obfuscated mask 0 (value_text row.coin)), length-obfuscated mask 0 (value_text row.coin))
 
 -- a row has a coin where its coin has bytes
 coin_some : (coin : Option Coin) (n : ℕ) → ValueFits coin → n ≡ length (value_text coin) → nat_lt 0 n ≡ is_some coin
@@ -134,10 +136,9 @@ module _ (file gate : ℕ) (mask payload : List ℕ) (start : ℕ) (old : CoinPl
       let rest = drop start payload in
       ap (λ (b : List ℕ). rows_of mask (length rest) b) r.parts ∙ rows_stuck mask r.rows (drop at payload) (length rest) r.fit (omega (arith, within, length-drop at payload)) stuck
 
-  pub faulty_rows : (at : ℕ) (new : CoinPlaces) (coins : Bool) → IsReadTo file gate mask payload start at old new coins → at < length payload → (part : List ℕ) → part ≡ drop at payload → (fault : RowFault) → IsBroken mask part fault
-      → IsBrokenBy (rows_of mask (length (drop start payload)) (drop start payload) ≡ None) fault
-  faulty_rows at new coins r within part is NoMemory b = tt
-  faulty_rows at new coins r within part is Broken b = read_stuck at new coins r within (ap (row_of mask) (sym is) ∙ b)
+  pub faulty_rows : (at : ℕ) (new : CoinPlaces) (coins : Bool) → IsReadTo file gate mask payload start at old new coins → at < length payload → (part : List ℕ) → part ≡ drop at payload → row_of mask part ≡ None
+      → rows_of mask (length (drop start payload)) (drop start payload) ≡ None
+  faulty_rows at new coins r within part is b = read_stuck at new coins r within (ap (row_of mask) (sym is) ∙ b)
 
 -- ---- a payload
 
@@ -179,7 +180,7 @@ pub base_faulty : (mask payload : List ℕ) (fault : RowFault) → IsBrokenBy (r
 base_faulty mask payload NoMemory b = tt
 base_faulty mask payload Broken b = base_stuck mask payload b
 
--- ---- a row is uncovered where it stands
+-- ---- a row that was read
 
 pub row_grows : (mask bytes : List ℕ) (row : RowHead) → IsRow mask bytes row → 0 < row.from + row.len
 unfolding head_text key_text

@@ -1,24 +1,25 @@
 -- What stands before a row's coin, from the steps of a cursor.
-use Rattle.std.specs.Prelude.{◌≡◌, ℕ, ◌+◌, ◌-◌, ◌<◌, List, [], ◌∷◌, ◌++◌, length, take, drop, Option, Some, None, Result, Ok, Err, refl}
+use Rattle.std.specs.Prelude.{◌≡◌, Bool, true, false, ℕ, ◌+◌, ◌-◌, ◌<◌, List, [], ◌∷◌, ◌++◌, length, take, drop, Option, Some, None, Result, Ok, Err, refl}
 use Rattle.std.specs.Result.{result_ok}
-use Rattle.std.proofs.Common.{sym, ap, subst, ◌∙◌, append_assoc, arith}
-use Rattle.std.proofs.lemmas.Bool.{ne_eqb, eq-eqb}
+use Rattle.std.proofs.Common.{eqb, sym, ap, subst, ◌∙◌, append_assoc, arith, inl, inr}
+use Rattle.std.proofs.lemmas.Bool.{cases_Bool, ne_eqb, eq-eqb}
 use Rattle.std.proofs.lemmas.List.{length-append, length-take, length-drop, take_at, drop_at}
-use Rattle.base_types.specs.Codec.{IsBytes, IsBytes-take, IsBytes-drop, at, ok_is}
-use Rattle.base_types.specs.Fields.{bytes_field, compact_field}
+use Rattle.base_types.specs.Codec.{IsBytes, at}
+use Rattle.base_types.proofs.Codecs.{IsBytes-take, IsBytes-drop, ok_is}
+use Rattle.base_types.proofs.Fields.{bytes_field, compact_field}
 use Rattle.base_types.specs.Reading.{Input, ◌>>=◌, on_rest, place, bytes_at, compact_at}
 use Rattle.base_types.specs.declared.coin.Coin.{Coin}
 use Rattle.base_types.specs.declared.cursor.ReadError.{ReadError}
 use Rattle.base_types.specs.declared.hash.OutPoint.{OutPoint}
-use Rattle.coin_codec.specs.KeyLaws.{key_codec}
-use Rattle.coin_codec.specs.Reading.{Wrong, key_at, coin_at}
+use Rattle.base_types.specs.Obfuscation.{obfuscated}
+use Rattle.base_types.proofs.Obfuscated.{length-obfuscated}
+use Rattle.coin_codec.proofs.KeyLaws.{key_codec}
+use Rattle.coin_codec.specs.Reading.{Wrong, is_whole, key_at, coin_at}
 use Rattle.coin_store.specs.declared.row.RowHead.{RowHead}
-use Rattle.coin_store.specs.declared.row.RowFault.{RowFault}
-use Rattle.coin_store.specs.declared.row.RowFault.TheVariants.{NoMemory, Broken}
-use Rattle.coin_store.specs.Batches.{covered, head_text}
+use Rattle.coin_store.specs.Batches.{head_text}
 use Rattle.coin_store.specs.Reading.{Head, whole, value_of, head_of, row_of}
-use Rattle.coin_store.specs.RowLaws.{head_takes, value_takes, row_takes, covered_bytes, length-covered}
-use Rattle.coin_store.specs.Rows.{HeadStands, IsRow, IsBroken, IsBrokenBy}
+use Rattle.coin_store.proofs.RowLaws.{head_takes, value_some, value_takes, row_takes, obfuscated_bytes}
+use Rattle.coin_store.specs.Rows.{HeadStands, IsRow, IsChecked}
 
 pub rest_ok : {X : Type 0} (read : Result (X × List ℕ) ReadError) (end : ℕ) (x : X) (j : Input)
     → (let go : X × List ℕ → Result (X × Input) ReadError = λ y. Ok (y.0, at end y.1) in read >>= go) ≡ Ok (x, j) → (read ≡ Ok (x, j.rest)) × (j.end ≡ end)
@@ -115,15 +116,15 @@ pub row_headless : (mask bytes : List ℕ) → head_of bytes ≡ None → row_of
 unfolding row_of
 row_headless mask bytes e = rw e refl
 
-pub row_broken : (mask bytes : List ℕ) (head : RowHead) → HeadStands bytes head → value_of (covered mask (take head.len (drop head.from bytes))) ≡ None → row_of mask bytes ≡ None
+pub row_broken : (mask bytes : List ℕ) (head : RowHead) → HeadStands bytes head → value_of (obfuscated mask 0 (take head.len (drop head.from bytes))) ≡ None → row_of mask bytes ≡ None
 unfolding row_of
 row_broken mask bytes head h e = rw (h.is, e) refl
 
-pub row_read : (mask bytes : List ℕ) (head : RowHead) → IsBytes mask → HeadStands bytes head → (coin : Option Coin) → value_of (covered mask (take head.len (drop head.from bytes))) ≡ Some coin → IsRow mask bytes head
+pub row_read : (mask bytes : List ℕ) (head : RowHead) → IsBytes mask → HeadStands bytes head → (coin : Option Coin) → value_of (obfuscated mask 0 (take head.len (drop head.from bytes))) ≡ Some coin → IsRow mask bytes head
 unfolding row_of
 row_read mask bytes head masked h coin e =
     let value = take head.len (drop head.from bytes) in
-    let text = value_takes (covered mask value) coin (covered_bytes 0 mask value masked (IsBytes-take head.len (drop head.from bytes) (IsBytes-drop head.from bytes h.fits))) e in
+    let text = value_takes (obfuscated mask 0 value) coin (obfuscated_bytes 0 mask value masked (IsBytes-take head.len (drop head.from bytes) (IsBytes-drop head.from bytes h.fits))) e in
     let within = h.within in
     let size : length value ≡ head.len = omega (arith, length-take head.len (drop head.from bytes), length-drop head.from bytes) in
     let is : row_of mask bytes ≡ Some (record { key = head.key; coin = coin }, drop (head.from + head.len) bytes) = rw (h.is, e) refl in
@@ -133,14 +134,34 @@ row_read mask bytes head masked h coin e =
       is = is;
       parts = t.0;
       fits = t.1;
-      len = sym size ∙ sym (length-covered 0 mask value) ∙ ap length text.0;
+      len = sym size ∙ sym (length-obfuscated mask 0 value) ∙ ap length text.0;
       from = h.from;
       within = h.within;
     }
 
-pub covered_part : (mask bytes now : List ℕ) (from len : ℕ) → now ≡ covered mask (take (from + len - from) (drop from bytes)) → now ≡ covered mask (take len (drop from bytes))
-covered_part mask bytes now from len e = e ∙ ap (λ (k : ℕ). covered mask (take k (drop from bytes))) (omega arith)
+pub obfuscated_part : (mask bytes now : List ℕ) (from len : ℕ) → now ≡ obfuscated mask 0 (take (from + len - from) (drop from bytes)) → now ≡ obfuscated mask 0 (take len (drop from bytes))
+obfuscated_part mask bytes now from len e = e ∙ ap (λ (k : ℕ). obfuscated mask 0 (take k (drop from bytes))) (omega arith)
 
-pub row_faulty : (mask bytes now : List ℕ) (head : RowHead) → HeadStands bytes head → now ≡ covered mask (take head.len (drop head.from bytes)) → (fault : RowFault) → IsBrokenBy (value_of now ≡ None) fault → IsBroken mask bytes fault
-row_faulty mask bytes now head h is NoMemory b = tt
-row_faulty mask bytes now head h is Broken b = row_broken mask bytes head h (ap value_of (sym is) ∙ b)
+pub row_unread : (mask bytes now : List ℕ) (head : RowHead) → HeadStands bytes head → now ≡ obfuscated mask 0 (take head.len (drop head.from bytes)) → value_of now ≡ None → row_of mask bytes ≡ None
+row_unread mask bytes now head h is none = row_broken mask bytes head h (ap value_of (sym is) ∙ none)
+
+-- ---- whether bytes are a value
+
+checked_read : {E : Type 0} (bytes : List ℕ) (read : Result (Coin × Input) E) (b : Bool) → value_of bytes ≡ whole (result_ok read) → b ≡ is_whole read → IsChecked bytes b
+checked_read bytes (Err e) b value is = subst (IsChecked bytes) (sym is) value
+checked_read bytes (Ok (coin, rest)) b value is = elim (cases_Bool (eqb (length rest.rest) 0)) [
+  | inl t ↦
+      let yes : b ≡ true = is ∙ t in
+      let found : IsChecked bytes true = (Some coin, value ∙ rw t refl) in
+      subst (IsChecked bytes) (sym yes) found
+  | inr f ↦
+      let no : b ≡ false = is ∙ f in
+      let none : IsChecked bytes false = value ∙ rw f refl in
+      subst (IsChecked bytes) (sym no) none
+]
+
+pub checked : (bytes : List ℕ) (b : Bool) → (0 < length bytes) → b ≡ is_whole (coin_at (at (length bytes) bytes)) → IsChecked bytes b
+checked bytes b some is = checked_read bytes (coin_at (at (length bytes) bytes)) b (value_some bytes some) is
+
+pub checked_empty : (bytes : List ℕ) → length bytes ≡ 0 → IsChecked bytes true
+checked_empty bytes none = (None, no_coin bytes none)

@@ -8,8 +8,9 @@ use Rattle.std.specs.HashMap as hash
 use Rattle.std.specs.HashMap.{HashMap}
 use Rattle.std.specs.Map.{lookup}
 use Rattle.std.specs.Ordering.{eq_by_cmp, is_eq}
-use Rattle.base_types.specs.Keys.{outpoint_cmp, outpoint_cmp_total, outpoint_cmp-IsAntisymmetric, outpoint_ties, tied_same, tied_not}
-use Rattle.base_types.specs.OrderedMaps.{get-map_of, inserts, removes}
+use Rattle.base_types.specs.Keys.{outpoint_cmp}
+use Rattle.base_types.proofs.KeyOrders.{outpoint_cmp_total, outpoint_cmp-IsAntisymmetric, outpoint_ties, tied_same, tied_not}
+use Rattle.base_types.proofs.OrderedMaps.{get-map_of, inserts, removes}
 use Rattle.base_types.specs.declared.hash.OutPoint.{OutPoint}
 use Rattle.coin_store.specs.declared.index.IndexKey.{IndexKey}
 use Rattle.coin_store.specs.declared.index.Salted.{Salted}

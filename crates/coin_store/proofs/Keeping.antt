@@ -1,13 +1,14 @@
 -- The outpoints of the index that have coins, one entry after the other.
-use Rattle.std.specs.Prelude.{◌≡◌, Bool, true, false, is_some, List, [], ◌∷◌, ◌++◌, map, Option, refl}
-use Rattle.std.specs.FinMap.{get}
+use Rattle.std.specs.Prelude.{◌≡◌, Bool, true, false, is_some, List, [], ◌∷◌, ◌++◌, map, Option, Some, refl}
+use Rattle.std.specs.FinMap.{get, same_map}
 use Rattle.std.specs.HashMap.{HashMap, IsUnique}
 use Rattle.std.specs.List.{list_any, IsDistinct, AllByRecursion}
 use Rattle.std.specs.Map.{lookup}
 use Rattle.std.specs.Ordering.{eq_by_cmp, is_eq}
 use Rattle.std.proofs.Common.{cond, eqb, sym, ap, ◌∙◌, append_assoc, inl, inr}
 use Rattle.std.proofs.lemmas.Bool.{cases_Bool, eq-eqb, ne_eqb}
-use Rattle.base_types.specs.Keys.{outpoint_cmp, outpoint_cmp-IsAntisymmetric}
+use Rattle.base_types.specs.Keys.{outpoint_cmp}
+use Rattle.base_types.proofs.KeyOrders.{outpoint_cmp_total, outpoint_cmp-IsAntisymmetric}
 use Rattle.base_types.specs.declared.hash.OutPoint.{OutPoint}
 use Rattle.std.specs.declared.cmp.Ordering.{Ordering}
 use Rattle.std.specs.declared.cmp.Ordering.TheVariants.{Less, Equal, Greater}
@@ -88,3 +89,30 @@ pub found : (m : HashMap IndexKey CoinPlace Salted) (places : CoinPlaces) (keys 
 found m places keys q unique view is =
     ap (λ (k : List OutPoint). list_any (eq_by_cmp outpoint_cmp q) k) is ∙ kept_found q m.entries unique
     ∙ ap (λ (p : Option CoinPlace). is_some (live p)) (sym (get_is m (record { outpoint = q })) ∙ ap (λ (p : CoinPlaces). get p q) view)
+
+-- ---- a copy
+
+at_member : (P : IndexKey → Type 0) (front : List Entry) (e : Entry) (rest : List Entry) → AllByRecursion P (keys_in (front ++ e ∷ rest)) → P e.0
+at_member P [] e rest a = a.0
+at_member P (f ∷ front) e rest a = at_member P front e rest a.1
+
+-- one more entry, whose key is none of those before
+pub one_copied : (front : List Entry) (e : Entry) (rest : List Entry) (q : IndexKey) → IsDistinct (eq_by_cmp key_cmp) (keys_in (front ++ e ∷ rest))
+    → cond (eq_by_cmp key_cmp q e.0) (Some e.1) (lookup (eq_by_cmp key_cmp q) front) ≡ lookup (eq_by_cmp key_cmp q) (front ++ e ∷ [])
+unfolding IsDistinct
+one_copied [] e rest q d = refl
+one_copied (f ∷ front) e rest q d = elim (cases_Bool (eq_by_cmp outpoint_cmp q.outpoint f.0.outpoint)) [
+  | inl here ↦
+      let same : q ≡ f.0 = (λ i. record { outpoint = outpoint_cmp-IsAntisymmetric q.outpoint f.0.outpoint (tied_is (outpoint_cmp q.outpoint f.0.outpoint) here) i }) in
+      let apart : eq_by_cmp key_cmp q e.0 ≡ false = ap (λ (k : IndexKey). eq_by_cmp key_cmp k e.0) same ∙ at_member (λ y. eq_by_cmp key_cmp f.0 y ≡ false) front e rest d.0 in
+      rw (here, apart) refl
+  | inr other ↦ rw other (one_copied front e rest q d.1)
+]
+
+pub copied : (m : HashMap IndexKey CoinPlace Salted) (copy places : CoinPlaces) (front : List Entry) → ((q : OutPoint) → get copy q ≡ lookup (eq_by_cmp key_cmp (record { outpoint = q })) front) → front ≡ m.entries → map_of m ≡ places → copy ≡ places
+copied m copy places front all whole view =
+    same_map outpoint_cmp_total outpoint_cmp-IsAntisymmetric copy places (λ q.
+    all q
+    ∙ ap (λ (es : List Entry). lookup (eq_by_cmp key_cmp (record { outpoint = q })) es) whole
+    ∙ sym (get_is m (record { outpoint = q }))
+    ∙ ap (λ (p : CoinPlaces). get p q) view)

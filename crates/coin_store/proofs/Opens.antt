@@ -3,10 +3,11 @@ use Rattle.std.specs.Prelude.{◌≡◌, ◌≢◌, ℕ, zero, suc, ◌+◌, ◌
 use Rattle.std.specs.FinMap.{get, empty, get-empty, get-insert, get-remove}
 use Rattle.std.specs.List.{AllByRecursion}
 use Rattle.std.specs.Ordering.{eq_by_cmp}
-use Rattle.base_types.specs.Keys.{outpoint_cmp, outpoint_cmp_total}
+use Rattle.base_types.specs.Keys.{outpoint_cmp}
+use Rattle.base_types.proofs.KeyOrders.{outpoint_cmp_total}
 use Rattle.base_types.specs.declared.coin.Coin.{Coin}
 use Rattle.coin_codec.specs.CoinText.{coin_text}
-use Rattle.coin_store.specs.RowLaws.{some_is, length-coin_text}
+use Rattle.coin_store.proofs.RowLaws.{some_is, length-coin_text}
 use Rattle.coin_store.specs.declared.places.CoinPlace.{CoinPlace}
 use Rattle.std.proofs.Common.{cond, sym, ap, subst, ◌∙◌, arith, inl, inr, ⊎_elim}
 use Rattle.std.proofs.lemmas.Bool.Decides.{nat_tests}
@@ -14,7 +15,7 @@ use Rattle.std.proofs.lemmas.Bool.{cases_lt, ne_eqb}
 use Rattle.std.proofs.lemmas.List.{length-append}
 use Rattle.std.proofs.lemmas.List.Sums.{sum_by-cons}
 use Rattle.disk_model.specs.Disk.{Image, Leaves, Quiet, Only}
-use Rattle.disk_model.specs.Moments.{IsSinceEarlier}
+use Rattle.disk_model.proofs.Moments.{IsSinceEarlier}
 use Rattle.base_types.specs.declared.fault.StoreFault.{StoreFault}
 use Rattle.base_types.specs.declared.fault.StoreFault.TheVariants.{NoMemory, DiskFailed, Damaged, Full, CacheFull}
 use Rattle.base_types.specs.declared.hash.OutPoint.{OutPoint}
@@ -93,7 +94,7 @@ first_live : (file : Option ℕ) (mask : List ℕ) (base : List (List Row)) → 
 first_live None mask base fits = none_live
 first_live (Some file) mask base fits = base_live file mask 0 empty base fits none_live
 
-all_live : (file : ℕ) (first : Option ℕ) (mask : List ℕ) (base : List (List Row)) (batches : List Batch) → AllByRecursion BaseFits base → AllByRecursion BatchFits batches → AreLive (places_after file mask 0 (base_places first mask base) batches)
+pub all_live : (file : ℕ) (first : Option ℕ) (mask : List ℕ) (base : List (List Row)) (batches : List Batch) → AllByRecursion BaseFits base → AllByRecursion BatchFits batches → AreLive (places_after file mask 0 (base_places first mask base) batches)
 all_live file first mask base batches base_fits fits = batches_live file mask 0 (base_places first mask base) batches fits (first_live first mask base base_fits)
 
 -- ---- the base
@@ -112,9 +113,9 @@ base_none mask file image base b none = no_texts mask base (sym (same_payloads [
 -- ---- the store
 
 pub opens : (contents : Option Image) (left : Image → Type 0) (store : CoinStore) (image : Image) (base : List (List Row)) (payloads : List (List ℕ)) (first : CoinPlaces) → IsBase store.mask store.base image base
-    → first ≡ base_places store.base store.mask base → Stands contents left store.log payloads → (store.base ≢ Some store.log.file → (f : ℕ) → store.base ≡ Some f → HoldsLog contents left f (base_texts store.mask base))
-    → HasBatches store.log.file store.mask payloads first store.index store.markers.items → (batches : List Batch) × (payloads ≡ texts store.mask batches) × (store.base ≢ Some store.log.file → Holds contents left store base batches)
-opens contents left store image base payloads first b is s stands h = (
+    → first ≡ base_places store.base store.mask base → store.base_index.places ≡ base_places store.base store.mask base → Stands contents left store.log payloads → (store.base ≢ Some store.log.file → (f : ℕ) → store.base ≡ Some f → HoldsLog contents left f (base_texts store.mask base))
+    → HasBatches store.log.file store.mask payloads first store.index.places store.markers.items → (batches : List Batch) × (payloads ≡ texts store.mask batches) × (store.base ≢ Some store.log.file → Holds contents left store base batches)
+opens contents left store image base payloads first b is alone s stands h = (
   h.batches,
   h.is,
   λ apart. record {
@@ -123,6 +124,8 @@ opens contents left store image base payloads first b is s stands h = (
       base_none = base_none store.mask store.base image base b;
       fits = h.fits;
       markers = h.marked;
+      base_places = alone;
+      end = s.end ∙ ap (λ (p : List (List ℕ)). length (records p)) h.is;
       places = λ q.
           ap (λ (p : CoinPlaces). live (get p q)) h.places
           ∙ ap (λ (p : CoinPlaces). live (get (places_after store.log.file store.mask 0 p h.batches) q)) is

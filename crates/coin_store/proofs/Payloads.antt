@@ -1,5 +1,5 @@
 -- One staged row more, and one payload more.
-use Rattle.std.specs.Prelude.{◌≡◌, ℕ, ◌+◌, ◌-◌, ◌≤◌, All, Contains, List, [], ◌∷◌, ◌++◌, length, take, drop, get_or, Option, Some, vec_len, vec_capacity}
+use Rattle.std.specs.Prelude.{◌≡◌, ℕ, ◌+◌, ◌-◌, ◌^◌, ◌<◌, ◌≤◌, All, Contains, List, [], ◌∷◌, ◌++◌, length, take, drop, get_or, Option, Some, vec_len, vec_capacity}
 use Rattle.std.specs.Global.{Vec}
 use Rattle.std.specs.FinMap.{get}
 use Rattle.std.specs.List.{AllByRecursion}
@@ -9,35 +9,47 @@ use Rattle.std.proofs.lemmas.List.Elements.{All-contains}
 use Rattle.disk_model.specs.Disk.{Image}
 use Rattle.base_types.specs.declared.hash.OutPoint.{OutPoint}
 use Rattle.batch_log.specs.OpenLog.{OpenLog, Stands, Unchanged, HasRoom}
-use Rattle.batch_log.specs.Records.{records, HoldsLog}
+use Rattle.batch_log.specs.Records.{body, records, HoldsLog}
 use Rattle.coin_store.specs.declared.marker.Marker.{Marker}
 use Rattle.coin_store.specs.declared.store.CoinStore.{CoinStore}
 use Rattle.coin_store.specs.declared.store.Marked.{Marked}
 use Rattle.coin_store.specs.Base.{base_texts, base_places}
-use Rattle.coin_store.specs.Batches.{Row, Batch, row_text, rows_text, marker_text, batch_text, RowFits, MarkerFits, BatchFits}
+use Rattle.coin_store.specs.Batches.{Row, Batch, value_text, head_text, row_text, rows_text, marker_text, batch_text, RowFits, MarkerFits, BatchFits}
 use Rattle.coin_store.specs.Places.{CoinPlaces, places_after_rows, places_after_batch, places_after}
-use Rattle.coin_store.specs.Staged.{HasEntry, KeepsEntries, Agrees, AreRows}
+use Rattle.coin_store.specs.OpenIndex.{OpenIndex, IsVacant, HasFewVacant}
+use Rattle.coin_store.specs.Staged.{HasEntry, Agrees, StandsFrom, coins_in_rows, places_noted}
 use Rattle.coin_store.specs.Staging.{IsStaged, staged_text}
 use Rattle.coin_store.specs.Store.{Knows, Holds, marks, texts}
+use Rattle.coin_store.specs.declared.staging.StagedRow.{StagedRow}
 use Rattle.coin_store.proofs.BatchSteps.{text_push, all_push}
+use Rattle.coin_store.proofs.Noting.{noted_entries, noted_agrees, noted_few, coins_fit, coins_named, coins_push}
+use Rattle.coin_store.proofs.Vacant.{few_same}
 use Rattle.coin_store.proofs.Scanning.{texts_push, marks_push, after_push}
 
 -- ---- one row more
 
 pub staged_push : (old new : CoinStore) (keys : List OutPoint) (payload payloads total : ℕ) (rows : List Row) (row : Row)
-    → new.staged.items ≡ old.staged.items ++ row_text old.mask row → vec_capacity old.staged ≤ vec_capacity new.staged
+    → new.staged.bytes.items ≡ old.staged.bytes.items ++ row_text old.mask row
+    → new.staged.rows.items ≡ old.staged.rows.items ++ record { key = row.key; at = vec_len old.staged.bytes + length (head_text row.key (length (value_text row.coin))); len = length (value_text row.coin) } ∷ []
+    → new.staged.room ≡ old.staged.room
     → new.index ≡ old.index → new.mask ≡ old.mask → new.markers ≡ old.markers → new.log ≡ old.log
     → IsStaged old keys payload payloads total rows → Contains keys row.key → RowFits row → IsStaged new keys payload payloads total (rows ++ row ∷ [])
-staged_push old new keys payload payloads total rows row text capacity index mask markers log s named fits =
+staged_push old new keys payload payloads total rows row text coin capacity index mask markers log s named fits =
     let bytes = s.bytes in
     let front = s.front in
+    let head = length (head_text row.key (length (value_text row.coin))) in
+    let reach : vec_len old.staged.bytes ≡ 65 + length (rows_text old.mask rows) = omega (arith, front, old.staged.bytes.ok.0, ap length s.text, length-drop 65 old.staged.bytes.items) in
     record {
-      entries = subst (λ (m : CoinPlaces). All (HasEntry m) keys) (sym index) s.entries;
+      entries = subst (λ (i : OpenIndex). All (HasEntry i.places) keys) (sym index) s.entries;
+      few_vacant = subst (λ (i : OpenIndex). HasFewVacant i keys) (sym index) s.few_vacant;
       named = all_push (λ row. Contains keys row.key) rows row s.named named;
       fit = all_push RowFits rows row s.fit fits;
-      front = omega (arith, ap length text, length-append old.staged.items (row_text old.mask row), front);
-      text = ap (drop 65) text ∙ drop-append-le 65 old.staged.items (row_text old.mask row) front ∙ ap (λ (t : List ℕ). t ++ row_text old.mask row) s.text ∙ sym (text_push old.mask rows row)
+      front = omega (arith, ap length text, length-append old.staged.bytes.items (row_text old.mask row), front);
+      text = ap (drop 65) text ∙ drop-append-le 65 old.staged.bytes.items (row_text old.mask row) front ∙ ap (λ (t : List ℕ). t ++ row_text old.mask row) s.text ∙ sym (text_push old.mask rows row)
           ∙ ap (λ (m : List ℕ). rows_text m (rows ++ row ∷ [])) (sym mask);
+      coins = coin ∙ ap (λ (l : List StagedRow). l ++ record { key = row.key; at = vec_len old.staged.bytes + head; len = length (value_text row.coin) } ∷ []) s.coins
+          ∙ ap (λ (n : ℕ). coins_in_rows old.mask 65 rows ++ record { key = row.key; at = n + head; len = length (value_text row.coin) } ∷ []) reach
+          ∙ sym (coins_push old.mask rows row 65) ∙ ap (λ (m : List ℕ). coins_in_rows m 65 (rows ++ row ∷ [])) (sym mask);
       bytes = omega (arith, bytes, capacity);
       short = s.short;
       marked = subst (λ (m : Vec Marked). vec_len m + payloads ≤ vec_capacity m) (sym markers) s.marked;
@@ -48,9 +60,16 @@ all_entries : (index : CoinPlaces) (keys : List OutPoint) (rows : List Row) → 
 all_entries index keys [] entries named = tt
 all_entries index keys (row ∷ rows) entries named = (All-contains (HasEntry index) keys row.key entries named.0, all_entries index keys rows entries named.1)
 
--- the staged bytes are rows
-pub are_rows : (store : CoinStore) (keys : List OutPoint) (payload payloads total : ℕ) (rows : List Row) → IsStaged store keys payload payloads total rows → AreRows store.mask store.index (drop 65 store.staged.items) rows
-are_rows store keys payload payloads total rows s = record { text = s.text; fit = s.fit; named = all_entries store.index keys rows s.entries s.named }
+-- the outpoints of staged rows have entries
+pub staged_named : (store : CoinStore) (keys : List OutPoint) (payload payloads total : ℕ) (rows : List Row) → IsStaged store keys payload payloads total rows → All (λ (r : StagedRow). HasEntry store.index.places r.key) store.staged.rows.items
+staged_named store keys payload payloads total rows s =
+    subst (λ (l : List StagedRow). All (λ (r : StagedRow). HasEntry store.index.places r.key) l) (sym s.coins) (coins_named store.index.places store.mask rows 65 (all_entries store.index.places keys rows s.entries s.named))
+
+-- and their coins stand in a record of the log that begins at this gate
+pub staged_stand : (store : CoinStore) (keys : List OutPoint) (payload payloads total : ℕ) (rows : List Row) (gate from len : ℕ) → IsStaged store keys payload payloads total rows → from ≤ 65 → len ≡ 65 - from + length (rows_text store.mask rows)
+    → gate + (5 + len) < 2 ^ 64 → len < 2 ^ 32 → All (StandsFrom gate from) store.staged.rows.items
+staged_stand store keys payload payloads total rows gate from len s begun is far short =
+    subst (All (StandsFrom gate from)) (sym s.coins) (coins_fit gate from store.mask rows 65 begun (omega (arith, is, far, begun)) (omega (arith, is, short)))
 
 -- and behind a marker they are the text of its batch
 pub staged_is : (store : CoinStore) (marker : Marker) (keys : List OutPoint) (payload payloads total : ℕ) (rows : List Row) → IsStaged store keys payload payloads total rows
@@ -60,12 +79,21 @@ staged_is store marker keys payload payloads total rows s = ap (λ (t : List ℕ
 
 -- ---- one payload more
 
-pub knows_push : (old new : CoinStore) (base : List (List Row)) (batches : List Batch) (batch : Batch) → Knows old base batches → BatchFits batch → old.log.end ≡ length (records (texts old.mask batches))
-    → new.base ≡ old.base → new.mask ≡ old.mask → new.log.file ≡ old.log.file → new.markers.items ≡ old.markers.items ++ record { marker = batch.marker; at = old.log.end } ∷ []
-    → Agrees new.index (places_after_rows old.log.file old.mask old.log.end (length (marker_text batch.marker)) (places_after old.log.file old.mask 0 (base_places old.base old.mask base) batches) batch.rows)
+one_record_more : (payloads : List (List ℕ)) (payload : List ℕ) → length (records (payloads ++ payload ∷ [])) ≡ length (records payloads) + (5 + length payload)
+one_record_more [] payload = omega (arith, length-append (1 ∷ body payload) [])
+one_record_more (first ∷ payloads) payload =
+    omega (arith, one_record_more payloads payload, length-append (1 ∷ body first) (records (payloads ++ payload ∷ [])), length-append (1 ∷ body first) (records payloads))
+
+pub knows_push : (old new : CoinStore) (base : List (List Row)) (batches : List Batch) (batch : Batch) → Knows old base batches → BatchFits batch → new.log.end ≡ old.log.end + (5 + length (batch_text old.mask batch))
+    → new.base_index ≡ old.base_index → new.base ≡ old.base → new.mask ≡ old.mask → new.log.file ≡ old.log.file → new.markers.items ≡ old.markers.items ++ record { marker = batch.marker; at = old.log.end } ∷ []
+    → Agrees new.index.places (places_after_rows old.log.file old.mask old.log.end (length (marker_text batch.marker)) (places_after old.log.file old.mask 0 (base_places old.base old.mask base) batches) batch.rows)
     → Knows new base (batches ++ batch ∷ [])
-knows_push old new base batches batch k fits end first mask file markers agree =
+knows_push old new base batches batch k fits further alone first mask file markers agree =
+    let end = k.end in
     let at : old.log.end ≡ 0 + length (records (texts old.mask batches)) = omega (arith, end) in
+    let payload = batch_text old.mask batch in
+    let whole : length (records (texts old.mask (batches ++ batch ∷ []))) ≡ length (records (texts old.mask batches)) + (5 + length payload) =
+    ap (λ (p : List (List ℕ)). length (records p)) (texts_push (batch_text old.mask) batches batch) ∙ one_record_more (texts old.mask batches) payload in
     let places = base_places old.base old.mask base in
     record {
       base_fits = k.base_fits;
@@ -76,6 +104,10 @@ knows_push old new base batches batch k fits end first mask file markers agree =
           ∙ ap (λ (n : ℕ). marks old.mask 0 batches ++ record { marker = batch.marker; at = n } ∷ []) at
           ∙ sym (marks_push old.mask 0 batches batch)
           ∙ ap (λ (m : List ℕ). marks m 0 (batches ++ batch ∷ [])) (sym mask);
+      base_places = ap (λ (i : OpenIndex). i.places) alone ∙ k.base_places
+          ∙ ap (λ (b : Option ℕ). base_places b old.mask base) (sym first)
+          ∙ ap (λ (m : List ℕ). base_places new.base m base) (sym mask);
+      end = further ∙ ap (λ (n : ℕ). n + (5 + length payload)) end ∙ sym whole ∙ ap (λ (m : List ℕ). length (records (texts m (batches ++ batch ∷ [])))) (sym mask);
       places = λ q. agree q
           ∙ ap (λ (n : ℕ). get (places_after_batch old.log.file old.mask n (places_after old.log.file old.mask 0 places batches) batch) q) at
           ∙ ap (λ (p : CoinPlaces). get p q) (sym (after_push old.log.file old.mask 0 places batches batch))
@@ -88,61 +120,88 @@ knows_push old new base batches batch k fits end first mask file markers agree =
 pub payload_is : (shown items text : List ℕ) (from : ℕ) → shown ≡ items → drop from items ≡ text → take (length shown - from) (drop from shown) ≡ text
 payload_is shown items text from is there = take_all (length shown - from) (drop from shown) (omega (arith, length-drop from shown)) ∙ ap (drop from) is ∙ there
 
-module _ (contents : Option Image) (left : Image → Type 0) (old new : CoinStore) (log : OpenLog) (base : List (List Row)) (batches : List Batch) (marker : Marker) (rows : List Row) where
+-- what the store knows with one batch more
+pub learned : (old new : CoinStore) (base : List (List Row)) (batches : List Batch) (keys : List OutPoint) (payload payloads total : ℕ) (marker : Marker) (rows : List Row) (from : ℕ) → Knows old base batches
+    → IsStaged old keys payload payloads total rows → MarkerFits marker → from + length (marker_text marker) ≡ 65 → new.log.end ≡ old.log.end + (5 + length (batch_text old.mask (record { marker = marker; rows = rows })))
+    → new.base_index ≡ old.base_index → new.base ≡ old.base → new.mask ≡ old.mask → new.log.file ≡ old.log.file → new.markers.items ≡ old.markers.items ++ record { marker = marker; at = old.log.end } ∷ []
+    → new.index.places ≡ places_noted old.log.file old.log.end from old.index.places old.staged.rows.items → Knows new base (batches ++ record { marker = marker; rows = rows } ∷ [])
+learned old new base batches keys payload payloads total marker rows from k s marked begins further alone first mask file markers noted =
+    let places = places_after old.log.file old.mask 0 (base_places old.base old.mask base) batches in
+    let start : 65 ≡ from + length (marker_text marker) = omega (arith, begins) in
+    let agree : Agrees (places_noted old.log.file old.log.end from old.index.places (coins_in_rows old.mask 65 rows)) (places_after_rows old.log.file old.mask old.log.end (length (marker_text marker)) places rows) =
+    noted_agrees old.log.file old.log.end from old.mask old.index.places places rows 65 (length (marker_text marker)) start s.fit k.places in
+    let is : new.index.places ≡ places_noted old.log.file old.log.end from old.index.places (coins_in_rows old.mask 65 rows) = noted ∙ ap (places_noted old.log.file old.log.end from old.index.places) s.coins in
+    knows_push old new base batches (record { marker = marker; rows = rows }) k (record { marker = marked; rows = s.fit }) further alone first mask file markers
+    (subst (λ (i : CoinPlaces). Agrees i (places_after_rows old.log.file old.mask old.log.end (length (marker_text marker)) places rows)) (sym is) agree)
+
+module _ (contents : Option Image) (left : Image → Type 0) (old new : CoinStore) (log : OpenLog) (base : List (List Row)) (batches : List Batch) (batch : Batch) where
   pub applied : (payload : List ℕ) → Holds contents left old base batches → (now : Option Image) (left_now : Image → Type 0)
       → Stands now left_now log (texts old.mask batches ++ payload ∷ []) → ((f : ℕ) → old.base ≡ Some f → HoldsLog now left_now f (base_texts old.mask base))
-      → payload ≡ batch_text old.mask (record { marker = marker; rows = rows }) → MarkerFits marker → AllByRecursion RowFits rows
-      → new.log ≡ log → log.file ≡ old.log.file → new.base ≡ old.base → new.mask ≡ old.mask → new.markers.items ≡ old.markers.items ++ record { marker = marker; at = old.log.end } ∷ []
-      → Agrees new.index (places_after_rows old.log.file old.mask old.log.end (length (marker_text marker)) (places_after old.log.file old.mask 0 (base_places old.base old.mask base) batches) rows)
-      → Holds now left_now new base (batches ++ record { marker = marker; rows = rows } ∷ [])
-  applied payload h now left_now s stands is marked fit log_is file first mask markers agree =
-      let batch : Batch = record { marker = marker; rows = rows } in
+      → payload ≡ batch_text old.mask batch → new.log ≡ log → log.file ≡ old.log.file → new.base ≡ old.base → new.mask ≡ old.mask → Knows new base (batches ++ batch ∷ [])
+      → Holds now left_now new base (batches ++ batch ∷ [])
+  applied payload h now left_now s stands is log_is file first mask knows =
       let payloads : texts old.mask batches ++ payload ∷ [] ≡ texts new.mask (batches ++ batch ∷ []) =
       ap (λ (p : List ℕ). texts old.mask batches ++ p ∷ []) is ∙ sym (texts_push (batch_text old.mask) batches batch) ∙ ap (λ (m : List ℕ). texts m (batches ++ batch ∷ [])) (sym mask) in
       let new_file : new.log.file ≡ old.log.file = ap (λ (l : OpenLog). l.file) log_is ∙ file in
       record {
-        knows = knows_push old new base batches batch h.knows (record { marker = marked; rows = fit }) h.stands.end first mask new_file markers agree;
+        knows = knows;
         stands = subst (λ (l : OpenLog). Stands now left_now l (texts new.mask (batches ++ batch ∷ []))) (sym log_is) (subst (Stands now left_now log) payloads s);
         base_stands = λ f this. subst (λ (m : List ℕ). HoldsLog now left_now f (base_texts m base)) (sym mask) (stands f (sym first ∙ this));
         apart = λ this. h.apart (sym first ∙ this ∙ ap (λ (f : ℕ). Some f) new_file);
       }
 
-pub restaged : (old new : CoinStore) (keys : List OutPoint) (payload payloads before total : ℕ) (rows : List Row) → IsStaged old keys payload (1 + payloads) before rows → KeepsEntries old.index new.index
-    → length new.staged.items ≡ 65 → vec_capacity new.staged ≡ vec_capacity old.staged → vec_len new.markers ≡ vec_len old.markers + 1 → vec_capacity old.markers ≤ vec_capacity new.markers → HasRoom new.log payloads total
+pub restaged : (old new : CoinStore) (keys : List OutPoint) (payload payloads before total : ℕ) (rows : List Row) (from : ℕ) → IsStaged old keys payload (1 + payloads) before rows
+    → new.index.places ≡ places_noted old.log.file old.log.end from old.index.places old.staged.rows.items → old.index.size ≤ new.index.size
+    → length new.staged.bytes.items ≡ 65 → new.staged.rows.items ≡ [] → new.staged.room ≡ old.staged.room
+    → vec_len new.markers ≡ vec_len old.markers + 1 → vec_capacity old.markers ≤ vec_capacity new.markers → HasRoom new.log payloads total
     → IsStaged new keys payload payloads total []
-restaged old new keys payload payloads before total rows s kept few capacity marks more room =
+restaged old new keys payload payloads before total rows from s noted size few none capacity marked_more more room =
     let bytes = s.bytes in
     let marked = s.marked in
+    let few_vacant = s.few_vacant in
+    let half = few_vacant.few in
+    let is : new.index.places ≡ places_noted old.log.file old.log.end from old.index.places (coins_in_rows old.mask 65 rows) = noted ∙ ap (places_noted old.log.file old.log.end from old.index.places) s.coins in
     record {
-      entries = λ k d within. kept (get_or keys k d) (s.entries k d within);
+      entries = λ k d within. subst (λ (p : CoinPlaces). HasEntry p (get_or keys k d)) (sym noted) (noted_entries old.log.file old.log.end from old.index.places old.staged.rows.items (get_or keys k d) (s.entries k d within));
+      few_vacant = record {
+        others = few_vacant.others;
+        few = omega (arith, half, size);
+        all = λ q v. noted_few old.log.file old.log.end from old.mask keys few_vacant.others old.index.places rows 65 s.named few_vacant.all q (subst (λ (p : CoinPlaces). IsVacant (get p q)) is v);
+      };
       named = tt;
       fit = tt;
       front = omega (arith, few);
-      text = drop_all 65 new.staged.items (omega (arith, few));
+      text = drop_all 65 new.staged.bytes.items (omega (arith, few));
+      coins = none;
       bytes = omega (arith, bytes, capacity);
       short = s.short;
-      marked = omega (arith, marked, marks, more);
+      marked = omega (arith, marked, marked_more, more);
       room = room;
     }
 
--- what is staged stays where no payload was added
-pub still_staged : (old new : CoinStore) (keys : List OutPoint) (payload payloads total : ℕ) (rows : List Row) → IsStaged old keys payload payloads total rows → Unchanged old.log new.log → new.index ≡ old.index → new.mask ≡ old.mask
-    → new.markers ≡ old.markers → drop 65 new.staged.items ≡ drop 65 old.staged.items → vec_len new.staged ≡ vec_len old.staged → vec_capacity new.staged ≡ vec_capacity old.staged → IsStaged new keys payload payloads total rows
-still_staged old new keys payload payloads total rows s log index mask markers text len capacity =
+-- what is staged stays where no payload was added and no entry is another
+pub still_staged : (old new : CoinStore) (keys : List OutPoint) (payload payloads total : ℕ) (rows : List Row) → IsStaged old keys payload payloads total rows → Unchanged old.log new.log → new.index.places ≡ old.index.places
+    → old.index.size ≤ new.index.size → new.mask ≡ old.mask → vec_len new.markers ≡ vec_len old.markers → vec_capacity old.markers ≤ vec_capacity new.markers
+    → drop 65 new.staged.bytes.items ≡ drop 65 old.staged.bytes.items → vec_len new.staged.bytes ≡ vec_len old.staged.bytes → new.staged.room ≡ old.staged.room → new.staged.rows.items ≡ old.staged.rows.items
+    → IsStaged new keys payload payloads total rows
+still_staged old new keys payload payloads total rows s log index size mask listed kept text len capacity coins =
     let front = s.front in
     let bytes = s.bytes in
+    let marked = s.marked in
     let room = s.room in
     let spare = log.spare in
     let buffer = log.buffer in
     record {
       entries = subst (λ (m : CoinPlaces). All (HasEntry m) keys) (sym index) s.entries;
+      few_vacant = few_same old.index new.index keys index size s.few_vacant;
       named = s.named;
       fit = s.fit;
-      front = omega (arith, front, len, old.staged.ok.0, new.staged.ok.0);
+      front = omega (arith, front, len, old.staged.bytes.ok.0, new.staged.bytes.ok.0);
       text = text ∙ s.text ∙ ap (λ (m : List ℕ). rows_text m rows) (sym mask);
+      coins = coins ∙ s.coins ∙ ap (λ (m : List ℕ). coins_in_rows m 65 rows) (sym mask);
       bytes = omega (arith, bytes, capacity);
       short = s.short;
-      marked = subst (λ (m : Vec Marked). vec_len m + payloads ≤ vec_capacity m) (sym markers) s.marked;
+      marked = omega (arith, marked, listed, kept);
       room = record {
         listed = omega (arith, room.listed, spare);
         buffered = omega (arith, room.buffered, buffer);

@@ -6,7 +6,7 @@ use Rattle.std.proofs.lemmas.List.{length-append, take_all}
 use Rattle.std.proofs.lemmas.List.Sums.{sum_by-append, sum_by-cons, sum_by_more_le}
 use Rattle.std.proofs.lemmas.Option.{slice_get-get_or}
 use Rattle.disk_model.specs.Disk.{Image, Quiet}
-use Rattle.disk_model.specs.Moments.{IsSinceEarlier}
+use Rattle.disk_model.proofs.Moments.{IsSinceEarlier}
 use Rattle.base_types.specs.declared.fault.StoreFault.{StoreFault}
 use Rattle.base_types.specs.declared.fault.StoreFault.TheVariants.{NoMemory, DiskFailed, Damaged, Full, CacheFull}
 use Rattle.batch_log.specs.OpenLog.{OpenLog, Stands, places_of}
@@ -23,7 +23,7 @@ use Rattle.coin_store.specs.Files.{WhereDamaged}
 use Rattle.coin_store.specs.Opening.{HasBatches, HasBase, HasPayloads, marked_at, IsDamagedAt}
 use Rattle.coin_store.specs.Places.{CoinPlaces, places_after_rows, places_after, places_after_batch}
 use Rattle.coin_store.specs.Reading.{batch_of}
-use Rattle.coin_store.specs.RowLaws.{some_is}
+use Rattle.coin_store.proofs.RowLaws.{some_is}
 use Rattle.coin_store.specs.Store.{marks, texts, FirstBroken, FirstBrokenAs, RecordCause}
 use Rattle.coin_store.proofs.BatchSteps.{all_push}
 

@@ -1,17 +1,26 @@
 -- Bytes of a row that are moved where they stand.
-use Rattle.std.specs.Prelude.{◌≡◌, ℕ, ◌+◌, ◌-◌, List, [], ◌++◌, length, take, drop, Result, Ok, Err, OnOk, refl}
-use Rattle.std.proofs.Common.{sym, ap, ◌∙◌, arith}
+use Rattle.std.specs.Prelude.{⊤, ◌≡◌, true, false, ℕ, ◌+◌, ◌-◌, ◌/◌, ◌%◌, ◌^◌, ◌<◌, ◌≤◌, List, [], ◌∷◌, ◌++◌, length, take, drop, is_ok, if◌then◌else◌, Result, Ok, Err, OnOk, OnErr, refl}
+use Rattle.std.proofs.Common.{ltb, sym, ap, ◌∙◌, arith, inl, inr}
+use Rattle.std.proofs.lemmas.Bool.{cases_Bool, le-ltb, lt-ltb}
 use Rattle.std.proofs.lemmas.List.{append-nil, length-append, take_at, drop_at, take_all, drop-drop}
 use borrow.Rule.Slice.PartMut.{put_mid}
-use Rattle.base_types.specs.Bytes.{compact}
-use Rattle.coin_codec.specs.KeyText.{key_text}
-use Rattle.coin_store.specs.Batches.{Row, covered, value_text, head_text, row_text}
-use Rattle.coin_store.specs.RowLaws.{length-covered}
+use Rattle.base_types.specs.Bytes.{compact, number_text, varint, marked}
+use Rattle.base_types.specs.Obfuscation.{obfuscated}
+use Rattle.base_types.proofs.Obfuscated.{length-obfuscated}
+use Rattle.coin_codec.specs.KeyText.{key_text, KeyFits}
+use Rattle.base_types.specs.declared.hash.OutPoint.{OutPoint}
+use Rattle.coin_store.proofs.RowLaws.{length-varint}
+use Rattle.coin_store.specs.Batches.{Row, value_text, head_text, row_text}
 
 -- what holds where there is a value
 pub ok_is : {E : Type 0} {T : Type 0} (result : Result T E) (v : T) (P : Type 0) → result ≡ Ok v → OnOk result P → P
 ok_is (Ok w) v P e p = p
 ok_is (Err d) v P e p = absurd cc
+
+-- what holds however a call ended
+pub in_any_case : {E T P : Type 0} (result : Result T E) → P → OnErr result P
+in_any_case (Ok v) p = tt
+in_any_case (Err d) p = p
 
 -- a part between two others is written over
 pub mid_written : (a k : ℕ) (front mid rest ys : List ℕ) → a ≡ length front → k ≡ length mid → put_mid a k (front ++ (mid ++ rest)) ys ≡ front ++ (ys ++ rest)
@@ -22,17 +31,17 @@ mid_written a k front mid rest ys begins long =
     ∙ ap (λ (l : List ℕ). front ++ (ys ++ drop k l)) behind
     ∙ ap (λ (l : List ℕ). front ++ (ys ++ l)) (drop_at mid rest k (sym long))
 
--- a coin is covered, and then the length behind it is moved before it
-pub row_closed : (start len k : ℕ) (mask bytes covering turned front value size : List ℕ) → k ≡ start + len - start → covering ≡ covered mask (take k (drop start bytes))
+-- a coin is obfuscated, and then the length behind it is moved before it
+pub row_closed : (start len k : ℕ) (mask bytes covering turned front value size : List ℕ) → k ≡ start + len - start → covering ≡ obfuscated mask 0 (take k (drop start bytes))
     → (n : ℕ) → (let now = put_mid start k bytes covering in (n ≡ length now - start) → turned ≡ drop len (take n (drop start now)) ++ take len (take n (drop start now))
-    → bytes ≡ front ++ (value ++ size) → start ≡ length front → len ≡ length value → put_mid start n now turned ≡ front ++ (size ++ covered mask value))
+    → bytes ≡ front ++ (value ++ size) → start ≡ length front → len ≡ length value → put_mid start n now turned ≡ front ++ (size ++ obfuscated mask 0 value))
 row_closed start len k mask bytes covering turned front value size k_is cover n n_is turn is begins long =
-    let hidden = covered mask value in
+    let hidden = obfuscated mask 0 value in
     let same : k ≡ length value = omega (arith, k_is, long) in
     let part : take k (drop start bytes) ≡ value =
     ap (λ (b : List ℕ). take k (drop start b)) is ∙ ap (take k) (drop_at front (value ++ size) start (sym begins)) ∙ take_at value size k (sym same) in
-    let covering_is : covering ≡ hidden = cover ∙ ap (covered mask) part in
-    let size_of : length hidden ≡ length value = length-covered 0 mask value in
+    let covering_is : covering ≡ hidden = cover ∙ ap (obfuscated mask 0) part in
+    let size_of : length hidden ≡ length value = length-obfuscated mask 0 value in
     let now = put_mid start k bytes covering in
     let now_is : now ≡ front ++ (hidden ++ size) =
     ap (λ (b : List ℕ). put_mid start k b covering) is ∙ mid_written start k front value size covering begins same ∙ ap (λ (c : List ℕ). front ++ (c ++ size)) covering_is in
@@ -52,7 +61,64 @@ pub row_long : (mask : List ℕ) (row : Row) → length (row_text mask row) ≡ 
 unfolding row_text head_text
 row_long mask row =
     let value = value_text row.coin in
-    omega (arith, length-append (key_text row.key ++ compact (length value)) (covered mask value), length-append (key_text row.key) (compact (length value)), length-covered 0 mask value)
+    omega (arith, length-append (key_text row.key ++ compact (length value)) (obfuscated mask 0 value), length-append (key_text row.key) (compact (length value)), length-obfuscated mask 0 value)
+
+compact_some : (n : ℕ) → 0 < length (compact n)
+unfolding compact
+compact_some n = elim (cases_Bool (ltb n 253)) [
+  | inl t ↦ rw t (omega arith)
+  | inr f ↦ elim (cases_Bool (ltb n (2 ^ 16))) [
+    | inl t ↦ rw (f, t) (omega arith)
+    | inr g ↦ elim (cases_Bool (ltb n (2 ^ 32))) [
+      | inl t ↦ rw (f, g, t) (omega arith)
+      | inr h ↦ rw (f, g, h) (omega arith)
+    ]
+  ]
+]
+
+pub compact_3 : (n : ℕ) → 253 ≤ n → n < 2 ^ 16 → length (compact n) ≡ 3
+unfolding compact number_text
+compact_3 n low high =
+    let above : ltb n 253 ≡ false = le-ltb n 253 low in
+    let below : ltb n (2 ^ 16) ≡ true = lt-ltb n (2 ^ 16) high in
+    rw (above, below) refl
+
+pub compact_5 : (n : ℕ) → 2 ^ 16 ≤ n → n < 2 ^ 32 → length (compact n) ≡ 5
+unfolding compact number_text
+compact_5 n low high =
+    let above : ltb n 253 ≡ false = le-ltb n 253 (omega (arith, low)) in
+    let over : ltb n (2 ^ 16) ≡ false = le-ltb n (2 ^ 16) low in
+    let below : ltb n (2 ^ 32) ≡ true = lt-ltb n (2 ^ 32) high in
+    rw (above, over, below) refl
+
+pub compact_9 : (n : ℕ) → 2 ^ 32 ≤ n → length (compact n) ≡ 9
+unfolding compact number_text
+compact_9 n low =
+    let above : ltb n 253 ≡ false = le-ltb n 253 (omega (arith, low)) in
+    let over : ltb n (2 ^ 16) ≡ false = le-ltb n (2 ^ 16) (omega (arith, low)) in
+    let far : ltb n (2 ^ 32) ≡ false = le-ltb n (2 ^ 32) low in
+    rw (above, over, far) refl
+
+pub key_small : (key : OutPoint) → KeyFits key → length (key_text key) < 2 ^ 40
+unfolding key_text
+key_small key fits =
+    let txid = fits.txid in
+    let index = fits.index in
+    omega (arith, txid, index, (length-varint key.index).1, length-append key.txid.bytes (varint key.index))
+
+-- no row is shorter
+pub row_least : (mask : List ℕ) (row : Row) → KeyFits row.key → 35 ≤ length (row_text mask row)
+unfolding key_text varint
+row_least mask row fits =
+    let txid = fits.txid in
+    omega (
+      arith,
+      row_long mask row,
+      compact_some (length (value_text row.coin)),
+      txid,
+      length-append row.key.txid.bytes (varint row.key.index),
+      length-append (marked row.key.index (row.key.index / 128)) ((row.key.index % 128) ∷ []),
+    )
 
 -- behind the marker the rows stay
 pub rows_stay : (len from : ℕ) (new shown items text : List ℕ) → len ≡ length items → shown ≡ items → length new ≡ length shown → drop from new ≡ text ++ drop 65 shown → from + length text ≡ 65
@@ -67,3 +133,8 @@ rows_stay len from new shown items text size is same there begins =
     ∙ ap (drop (length text)) there
     ∙ drop_at text (drop 65 shown) (length text) refl
     ∙ ap (drop 65) is
+
+-- one more is listed where it was pushed
+pub pushed : {A E : Type 0} (result : Result ⊤ E) (v : ⊤) (old new : List A) (x : A) → result ≡ Ok v → new ≡ (if is_ok result then old ++ x ∷ [] else old) → new ≡ old ++ x ∷ []
+pushed (Ok w) v old new x e is = is
+pushed (Err d) v old new x e is = absurd cc

@@ -4,12 +4,12 @@ use Rattle.std.proofs.Common.{cond, eqb, sym, ap, subst, ◌∙◌, arith, inl, 
 use Rattle.std.proofs.lemmas.Bool.{cases_Bool, cases_lt, eqb-true}
 use Rattle.std.proofs.lemmas.Bool.Decides.{nat_tests}
 use Rattle.std.proofs.lemmas.List.{take_all, take-take, drop-take}
-use Rattle.disk_model.specs.Disk.{Image, At, Torn, Leaves, Only}
-use Rattle.disk_model.specs.Moments.{IsSinceEarlier, leaves_then, leaves_wider, elsewhere}
+use Rattle.disk_model.specs.Disk.{Image, At, Torn, Leaves, Quiet, Only}
+use Rattle.disk_model.proofs.Moments.{IsSinceEarlier, leaves_quiet, leaves_then, leaves_wider, elsewhere}
 use Rattle.batch_log.specs.Reading.{ReadAtMost}
 use Rattle.batch_log.specs.Records.{SameLog, log, payloads_from}
-use Rattle.coin_store.specs.Files.{IsOneOf, IsBaseFile, InFiles, OthersKeptBut, log_reads, base_reads, store_reads, ReadWithin}
-use Rattle.coin_store.specs.RowLaws.{some_is}
+use Rattle.coin_store.specs.Files.{IsOneOf, IsBaseFile, IsTiny, InFiles, OthersKeptBut, log_reads, base_reads, store_reads, ReadWithin}
+use Rattle.coin_store.proofs.RowLaws.{some_is}
 
 -- ---- a file is this one, or another
 
@@ -117,6 +117,30 @@ pub file_leaves : {D : Type 0} (time : D → ℕ) (left : D → ℕ → Image �
     → Leaves time left (InFiles (IsBaseFile base) Step) old new
 file_leaves time left base Step file this still old new l = leaves_wider time left (At file Step) (InFiles (IsBaseFile base) Step) old new (in_files (IsBaseFile base) Step still file this) l
 
+-- ---- files of more than one byte stay
+
+module _ {D : Type 0} (time : D → ℕ) (left : D → ℕ → Image → Type 0) where
+  -- a file that is one of these where it has at most one byte
+  pub log_leaves : (IsFile : ℕ → Type 0) (file : ℕ) (m : Image) → (length (m file) ≤ 1 → IsFile file) → (old new : D) → Leaves time left (At file SameLog) old new → (1 < length (m file) → Quiet time left old new)
+      → Leaves time left (InFiles IsFile SameLog) old new
+  log_leaves IsFile file m this old new l quiet = elim (cases_lt 1 (length (m file))) [
+    | inl long ↦ leaves_quiet time left (InFiles IsFile SameLog) old new (quiet long)
+    | inr few ↦ leaves_wider time left (At file SameLog) (InFiles IsFile SameLog) old new (in_files IsFile SameLog same_still file (this few)) l
+  ]
+
+  pub tiny_base_leaves : (base : Option ℕ) (coins : ℕ) (m : Image) (old new : D) → Leaves time left (InFiles (IsTiny (IsBaseFile base) m) SameLog) old new → Leaves time left (InFiles (IsTiny (IsOneOf base coins) m) SameLog) old new
+  tiny_base_leaves base coins m old new l = leaves_wider time left (InFiles (IsTiny (IsBaseFile base) m) SameLog) (InFiles (IsTiny (IsOneOf base coins) m) SameLog) old new
+      (files_wider (IsTiny (IsBaseFile base) m) (IsTiny (IsOneOf base coins) m) SameLog (λ f t. (inl t.0, t.1))) l
+
+  -- the base file's log, and then that of the coin file
+  pub tiny_both_leave : IsSinceEarlier time left → (base : Option ℕ) (coins : ℕ) (m n : Image) → (length (n coins) ≤ 1 → length (m coins) ≤ 1) → (old mid new : D) → Leaves time left (InFiles (IsTiny (IsBaseFile base) m) SameLog) old mid
+      → Leaves time left (At coins SameLog) mid new → (1 < length (n coins) → Quiet time left mid new) → Leaves time left (InFiles (IsTiny (IsOneOf base coins) m) SameLog) old new
+  tiny_both_leave earlier base coins m n tiny old mid new a b quiet =
+      let IsFile = IsTiny (IsOneOf base coins) m in
+      let second : Leaves time left (InFiles IsFile SameLog) mid new = log_leaves IsFile coins n (λ few. (inr refl, tiny few)) mid new b quiet in
+      leaves_then time left earlier (InFiles IsFile SameLog) (InFiles IsFile SameLog) (InFiles IsFile SameLog) old mid new (λ x y s. s) (λ x y s. s)
+      (λ x y z s t. files_then IsFile SameLog same_on x y z s t) (tiny_base_leaves base coins m old mid a) second
+
 -- ---- what is told
 
 pub told_but : (IsFile : ℕ → Type 0) (old mid : Option Image) (m : Image) → OthersKeptBut IsFile old mid → old ≡ Some m → (n : Image) × (mid ≡ Some n) × ((f : ℕ) → (IsFile f → ⊥) → n f ≡ m f)
@@ -150,6 +174,9 @@ alike_reads a b same = ⊎_elim (λ e. ap log_reads e) (λ few. tiny_reads b few
 
 pub alike_tiny : (a b : List ℕ) → Alike a b → length a ≤ 1 → length b ≤ 1
 alike_tiny a b same few = ⊎_elim (λ e. subst (λ (l : List ℕ). length l ≤ 1) (sym e) few) (λ both. both.1) same
+
+pub alike_before : (a b : List ℕ) → Alike a b → length b ≤ 1 → length a ≤ 1
+alike_before a b same few = ⊎_elim (λ e. subst (λ (l : List ℕ). length l ≤ 1) e few) (λ both. both.0) same
 
 pub alike : (base : Option ℕ) (old mid : Option Image) (m n : Image) → old ≡ Some m → mid ≡ Some n → ((f : ℕ) → base ≢ Some f → n f ≡ m f) → (((f : ℕ) → base ≡ Some f → 1 < length (m f)) → mid ≡ old)
     → ((f : ℕ) → base ≡ Some f → length (m f) ≤ 1 → n f ≡ 0 ∷ []) → (f : ℕ) → Alike (m f) (n f)

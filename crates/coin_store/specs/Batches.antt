@@ -1,12 +1,14 @@
--- The text of a batch: a marker, and then rows. The coin of a row is covered by a mask of eight bytes, after the covering
--- of Bitcoin Core's coins database.
-use Rattle.std.specs.Prelude.{⊤, ◌≡◌, ℕ, suc, ◌%◌, List, [], ◌∷◌, ◌++◌, length, get_or, bit_xor, Option, Some, None}
+-- The text of a batch: a marker, and then rows. The coin of a row is obfuscated with a key of eight bytes, as in Bitcoin
+-- Core's coins database.
+use Rattle.std.specs.Prelude.{⊤, ◌≡◌, ℕ, List, [], ◌∷◌, ◌++◌, length, Option, Some, None}
 use Rattle.std.specs.List.{flat_map, AllByRecursion}
 use Rattle.base_types.specs.Bytes.{compact}
 use Rattle.base_types.specs.declared.coin.Coin.{Coin}
 use Rattle.base_types.specs.declared.hash.Hash32.{Hash32}
 use Rattle.base_types.specs.declared.hash.OutPoint.{OutPoint}
-use Rattle.coin_codec.specs.CoinText.{coin_text, CoinFits}
+use Rattle.base_types.specs.Obfuscation.{obfuscated}
+use Rattle.coin_codec.specs.CoinText.{coin_text}
+use Rattle.base_types.specs.Coins.{CoinFits}
 use Rattle.coin_codec.specs.KeyText.{key_text, KeyFits}
 use Rattle.coin_store.specs.declared.marker.Marker.{Marker}
 use Rattle.coin_store.specs.declared.marker.Marker.TheVariants.{At, Between}
@@ -20,14 +22,6 @@ pub record Batch : Type 0 where
   pub marker : Marker
   pub rows : List Row
 
--- the bytes, each joined to a byte of the mask, which goes on from this place of its eight
-unfoldable pub covered_from : ℕ → List ℕ → List ℕ → List ℕ
-covered_from place mask [] = []
-covered_from place mask (byte ∷ bytes) = bit_xor byte (get_or mask (place % 8) 0) ∷ covered_from (suc place) mask bytes
-
-abbrev pub covered : List ℕ → List ℕ → List ℕ
-covered mask bytes = covered_from 0 mask bytes
-
 -- the text of a coin, and no bytes where there is none
 unfoldable pub value_text : Option Coin → List ℕ
 value_text None = []
@@ -38,7 +32,7 @@ unfoldable pub head_text : OutPoint → ℕ → List ℕ
 head_text key n = key_text key ++ compact n
 
 unfoldable pub row_text : List ℕ → Row → List ℕ
-row_text mask row = head_text row.key (length (value_text row.coin)) ++ covered mask (value_text row.coin)
+row_text mask row = head_text row.key (length (value_text row.coin)) ++ obfuscated mask 0 (value_text row.coin)
 
 abbrev pub rows_text : List ℕ → List Row → List ℕ
 rows_text mask rows = flat_map (row_text mask) rows

@@ -11,6 +11,10 @@ IsOneOf base_file coin_file f = (base_file ≡ Some f) ⊎ (f ≡ coin_file)
 abbrev pub IsBaseFile : Option ℕ → ℕ → Type 0
 IsBaseFile base_file f = base_file ≡ Some f
 
+-- one of these files, which has at most one byte
+abbrev pub IsTiny : (ℕ → Type 0) → Image → ℕ → Type 0
+IsTiny IsFile image f = IsFile f × (length (image f) ≤ 1)
+
 -- each file takes this step, and all but these stay
 pub record InFiles (IsFile : ℕ → Type 0) (Step : List ℕ → List ℕ → Type 0) (old new : Image) : Type 0 where
   pub each : (f : ℕ) → Step (old f) (new f)

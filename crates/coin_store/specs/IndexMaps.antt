@@ -1,8 +1,12 @@
--- The index as a finite map.
-use Rattle.std.specs.Prelude.{ℕ, List, map, refl}
+-- The index as a finite map, what its hashers begin with, and how many of its entries have no coin.
+use Rattle.std.specs.Prelude.{ℕ, List, map, ◌==◌, if◌then◌else◌, refl}
 use Rattle.std.specs.Coded.{Coded, code_by, coded_ℕ, coded_list, coded×}
 use Rattle.std.specs.FinMap.{from_entries, code}
-use Rattle.std.specs.HashMap.{HashMap}
+use Rattle.std.specs.Hash as fed
+use Rattle.std.specs.Hash.DefaultHasher as sip
+use Rattle.std.specs.HashMap.{HashMap, values}
+use Rattle.std.specs.List.{fold, sum_by}
+use Rattle.base_types.specs.declared.program.Salt.{Salt}
 use Rattle.base_types.specs.declared.hash.OutPoint.{OutPoint}
 use Rattle.coin_store.specs.declared.index.IndexKey.{IndexKey}
 use Rattle.coin_store.specs.declared.index.Salted.{Salted}
@@ -14,6 +18,17 @@ pairs entries = map (λ entry. (entry.0.outpoint, entry.1)) entries
 
 abbrev pub map_of : HashMap IndexKey CoinPlace Salted → CoinPlaces
 map_of places = from_entries (pairs places.entries)
+
+-- a hasher that was fed the two words of a salt
+abbrev pub salted : Salt → Salted
+salted salt = record { initial = fold sip.write (fold sip.write sip.initial (fed.u64 salt.a)) (fed.u64 salt.b) }
+
+abbrev pub vacancy : CoinPlace → ℕ
+vacancy place = if place.len == 0 then 1 else 0
+
+-- how many places have no bytes
+abbrev pub vacancies : HashMap IndexKey CoinPlace Salted → ℕ
+vacancies places = sum_by vacancy (values places)
 
 -- ---- codes, by which proofs tell values apart
 

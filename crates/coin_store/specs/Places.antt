@@ -5,7 +5,8 @@ use Rattle.base_types.specs.Coins.{Coins}
 use Rattle.base_types.specs.Keys.{outpoint_cmp}
 use Rattle.base_types.specs.declared.coin.Coin.{Coin}
 use Rattle.base_types.specs.declared.hash.OutPoint.{OutPoint}
-use Rattle.coin_store.specs.Batches.{Row, Batch, covered, value_text, head_text, row_text, marker_text, batch_text}
+use Rattle.base_types.specs.Obfuscation.{obfuscated}
+use Rattle.coin_store.specs.Batches.{Row, Batch, value_text, head_text, row_text, marker_text, batch_text}
 use Rattle.coin_store.specs.Reading.{◌>>=◌, value_of}
 use Rattle.coin_store.specs.declared.places.CoinPlace.{CoinPlace}
 
@@ -71,7 +72,7 @@ bytes_there image place = take place.len (drop place.at (image place.file))
 abbrev pub coin_there : List ℕ → (ℕ → List ℕ) → CoinPlace → Option Coin
 coin_there mask image place =
     if nat_lt (length (bytes_there image place)) place.len then None else
-    value_of (covered mask (bytes_there image place)) >>= λ coin. coin
+    value_of (obfuscated mask 0 (bytes_there image place)) >>= λ coin. coin
 
 abbrev pub coins_of : List ℕ → (ℕ → List ℕ) → List (OutPoint × CoinPlace) → Coins
 coins_of mask image [] = empty

@@ -5,10 +5,11 @@ use Rattle.base_types.specs.Reading.{Input, bytes_at, compact_at}
 use Rattle.base_types.specs.Codec.{at}
 use Rattle.base_types.specs.declared.coin.Coin.{Coin}
 use Rattle.base_types.specs.declared.hash.OutPoint.{OutPoint}
+use Rattle.base_types.specs.Obfuscation.{obfuscated}
 use Rattle.coin_codec.specs.Reading.{key_at, coin_at}
 use Rattle.coin_store.specs.declared.marker.Marker.{Marker}
 use Rattle.coin_store.specs.declared.marker.Marker.TheVariants.{At, Between}
-use Rattle.coin_store.specs.Batches.{Row, Batch, covered}
+use Rattle.coin_store.specs.Batches.{Row, Batch}
 
 -- a step, and another with its value, if there is one
 infixl 10 ◌>>=◌
@@ -43,7 +44,7 @@ head_of bytes = do
 unfoldable pub row_of : List ℕ → List ℕ → Option (Row × List ℕ)
 row_of mask bytes = do
   head ← head_of bytes
-  coin ← value_of (covered mask head.value)
+  coin ← value_of (obfuscated mask 0 head.value)
   Some (record { key = head.key; coin = coin }, head.rest)
 
 -- rows to the end, of which there are at most so many

@@ -1,5 +1,5 @@
 -- What the readers of rows return.
-use Rattle.std.specs.Prelude.{⊤, ◌≡◌, ℕ, ◌+◌, ◌≤◌, List, ◌++◌, length, take, drop, Option, Some, None, Result, Ok, Err}
+use Rattle.std.specs.Prelude.{⊤, ◌≡◌, Bool, true, false, ℕ, ◌+◌, ◌≤◌, List, ◌++◌, length, take, drop, Option, Some, None, Result, Ok, Err}
 use Rattle.base_types.specs.Codec.{IsBytes}
 use Rattle.base_types.specs.declared.coin.Coin.{Coin}
 use Rattle.coin_codec.specs.KeyText.{KeyFits}
@@ -29,9 +29,9 @@ abbrev pub IsValue : List ℕ → Result (Option Coin) RowFault → Type 0
 IsValue bytes (Ok coin) = value_of bytes ≡ Some coin
 IsValue bytes (Err fault) = IsBrokenBy (value_of bytes ≡ None) fault
 
-abbrev pub IsChecked : List ℕ → Result ⊤ RowFault → Type 0
-IsChecked bytes (Ok _) = (coin : Option Coin) × (value_of bytes ≡ Some coin)
-IsChecked bytes (Err fault) = IsBrokenBy (value_of bytes ≡ None) fault
+abbrev pub IsChecked : List ℕ → Bool → Type 0
+IsChecked bytes true = (coin : Option Coin) × (value_of bytes ≡ Some coin)
+IsChecked bytes false = value_of bytes ≡ None
 
 -- the first row of these bytes
 pub record IsRow (mask bytes : List ℕ) (head : RowHead) : Type 0 where
@@ -42,6 +42,3 @@ pub record IsRow (mask bytes : List ℕ) (head : RowHead) : Type 0 where
   pub len : head.len ≡ length (value_text coin)
   pub from : head.from ≡ length (head_text head.key head.len)
   pub within : head.from + head.len ≤ length bytes
-
-abbrev pub IsBroken : List ℕ → List ℕ → RowFault → Type 0
-IsBroken mask bytes fault = IsBrokenBy (row_of mask bytes ≡ None) fault

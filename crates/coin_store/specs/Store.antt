@@ -7,6 +7,7 @@ use Rattle.base_types.specs.declared.fault.StoreFault.{StoreFault}
 use Rattle.base_types.specs.declared.fault.StoreFault.TheVariants.{NoMemory, DiskFailed, Damaged, Full, CacheFull}
 use Rattle.base_types.specs.declared.hash.Hash32.{Hash32}
 use Rattle.base_types.specs.declared.hash.OutPoint.{OutPoint}
+use Rattle.base_types.specs.declared.program.Salt.{Salt}
 use Rattle.batch_log.specs.OpenLog.{Stands}
 use Rattle.batch_log.specs.Records.{records, log, HoldsLog}
 use Rattle.coin_store.specs.declared.kind.Kind.{Kind}
@@ -15,7 +16,7 @@ use Rattle.coin_store.specs.declared.marker.Marker.{Marker}
 use Rattle.coin_store.specs.declared.marker.Marker.TheVariants.{At}
 use Rattle.coin_store.specs.declared.store.CoinStore.{CoinStore}
 use Rattle.coin_store.specs.declared.store.Marked.{Marked}
-use Rattle.coin_store.specs.Base.{BaseFits, base_of, base_texts, base_places, IsBase}
+use Rattle.coin_store.specs.Base.{BaseFits, base_of, base_texts, base_places as places_in_base, IsBase}
 use Rattle.coin_store.specs.Batches.{Row, Batch, rows_text, batch_text, BatchFits}
 use Rattle.coin_store.specs.Files.{WhereDamaged}
 use Rattle.coin_store.specs.Places.{places_after, live}
@@ -43,13 +44,16 @@ as_pair marked = (marked.marker, marked.at)
 abbrev pub texts : List ℕ → List Batch → List (List ℕ)
 texts mask batches = map (batch_text mask) batches
 
--- the store has the markers of these batches, and the places of the base's coins with those of the batches
+-- the store has the markers of these batches, where the next would stand, the places of the base's coins, and these with
+-- those of the batches
 pub record Knows (store : CoinStore) (base : List (List Row)) (batches : List Batch) : Type 0 where
   pub base_fits : AllByRecursion BaseFits base
   pub base_none : store.base ≡ None → base ≡ []
   pub fits : AllByRecursion BatchFits batches
   pub markers : store.markers.items ≡ marks store.mask 0 batches
-  pub places : (q : OutPoint) → live (get store.index q) ≡ get (places_after store.log.file store.mask 0 (base_places store.base store.mask base) batches) q
+  pub base_places : store.base_index.places ≡ places_in_base store.base store.mask base
+  pub end : store.log.end ≡ length (records (texts store.mask batches))
+  pub places : (q : OutPoint) → live (get store.index.places q) ≡ get (places_after store.log.file store.mask 0 (places_in_base store.base store.mask base) batches) q
 
 -- and they are those of its two files as these read and after each crash
 pub record Holds (contents : Option Image) (left : Image → Type 0) (store : CoinStore) (base : List (List Row)) (batches : List Batch) : Type 0 where
@@ -59,12 +63,13 @@ pub record Holds (contents : Option Image) (left : Image → Type 0) (store : Co
   pub apart : store.base ≢ Some store.log.file
 
 -- what the store was opened with
-pub record IsOpened (file : ℕ) (base : Option ℕ) (limit : ℕ) (mask : List ℕ) (start : Hash32) (store : CoinStore) : Type 0 where
+pub record IsOpened (file : ℕ) (base : Option ℕ) (limit : ℕ) (mask : List ℕ) (start : Hash32) (salt : Salt) (store : CoinStore) : Type 0 where
   pub file_is : store.log.file ≡ file
   pub base_is : store.base ≡ base
   pub limit_is : store.log.limit ≡ limit
   pub mask_is : store.mask ≡ mask
   pub start_is : store.start ≡ At start
+  pub salt_is : store.index.salt ≡ salt
 
 -- the first payload that can't be read has its gate there; those before it are the texts of what was read
 pub record FirstBroken {P : Type 0} (text : P → List ℕ) (Fits : P → Type 0) (read : List ℕ → Option P) (payloads : List (List ℕ)) (at : ℕ) : Type 0 where

@@ -8,16 +8,17 @@ use Rattle.base_types.specs.declared.fault.StoreFault.{StoreFault}
 use Rattle.base_types.specs.declared.fault.StoreFault.TheVariants.{NoMemory, DiskFailed, Damaged, Full, CacheFull}
 use Rattle.coin_store.specs.declared.batch.Gate.{Gate}
 use Rattle.coin_store.specs.declared.places.CoinPlace.{CoinPlace}
-use Rattle.coin_store.specs.declared.store.CoinStore.{CoinStore}
+use Rattle.coin_store.specs.OpenIndex.{OpenIndex}
 use Rattle.coin_store.specs.Places.{coin_there, coins_at_places}
 
 -- why a place may not be read
-abbrev pub PlaceCause : ℕ → ℕ → StoreFault → Type 0
-PlaceCause before now NoMemory = ⊤
-PlaceCause before now DiskFailed = Rose before now
-PlaceCause before now (Damaged file at) = ⊥
-PlaceCause before now (Full file) = ⊥
-PlaceCause before now CacheFull = ⊥
+abbrev pub PlaceCause : {T : Type 0} → ℕ → ℕ → Result T StoreFault → Type 0
+PlaceCause before now (Ok value) = now ≡ before
+PlaceCause before now (Err NoMemory) = now ≡ before
+PlaceCause before now (Err DiskFailed) = Rose before now
+PlaceCause before now (Err (Damaged file at)) = ⊥
+PlaceCause before now (Err (Full file)) = ⊥
+PlaceCause before now (Err CacheFull) = ⊥
 
 -- why a call of a view may fail at this place
 abbrev pub FaultCause : ℕ → ℕ → CoinPlace → StoreFault → Type 0
@@ -51,7 +52,7 @@ abbrev pub found_broken : {T : Type 0} → Result T StoreFault → List BrokenPl
 found_broken (Ok x) = []
 found_broken (Err fault) = broken_in fault
 
--- the fault of a broken place: damage, or want of memory
+-- the fault of a place that was found broken: damage, or want of memory
 abbrev pub IsBrokenFault : CoinPlace → StoreFault → Type 0
 IsBrokenFault place NoMemory = ⊤
 IsBrokenFault place (Damaged file at) = (file ≡ place.file) × (at ≡ place.gate)
@@ -59,6 +60,6 @@ IsBrokenFault place DiskFailed = ⊥
 IsBrokenFault place (Full file) = ⊥
 IsBrokenFault place CacheFull = ⊥
 
--- the coins at the places of a store, where the disk tells its contents
-abbrev pub coins_seen : CoinStore → Option Image → Option Coins
-coins_seen store contents = option_map (λ image. coins_at_places store.mask image store.index) contents
+-- the coins at the places of an index, where the disk tells its contents
+abbrev pub coins_seen : List ℕ → OpenIndex → Option Image → Option Coins
+coins_seen mask index contents = option_map (λ image. coins_at_places mask image index.places) contents

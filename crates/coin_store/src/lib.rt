@@ -5,7 +5,6 @@
 #![tactic(auto)]
 
 mod batch;
-mod cover;
 mod index;
 mod key_order;
 mod kind;
@@ -17,8 +16,10 @@ mod staging;
 mod store;
 mod view;
 
+pub use batch::Gate;
 pub use marker::Marker;
 pub use places::CoinPlace;
+pub use staging::row_len;
 pub use store::CoinStore;
 pub use view::StoreView;
 

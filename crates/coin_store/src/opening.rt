@@ -11,17 +11,16 @@ ghost use Rattle.batch_log.specs.Reading.{ReadAtMost};
 ghost use Rattle.coin_store.specs.Base.{IsBase, base_texts, base_places};
 ghost use Rattle.coin_store.specs.BatchReads.{HasPayload, IsNoPayload};
 ghost use Rattle.coin_store.specs.Batches.{Row};
-ghost use Rattle.coin_store.specs.Files.{IsBaseFile, InFiles, OthersKeptBut, FilesCause, WhereDamaged, log_reads, base_reads, ReadWithin};
+ghost use Rattle.coin_store.specs.Files.{IsBaseFile, IsTiny, InFiles, OthersKeptBut, FilesCause, WhereDamaged, log_reads, base_reads, ReadWithin};
 ghost use Rattle.coin_store.specs.Opening.{HasPayloads, marked_at, IsDamagedAt, LogDamage, BaseDamage};
 ghost use Rattle.coin_store.specs.Store.{RecordCause};
 ghost use Rattle.base_types.specs.declared.fault.StoreFault.TheVariants.{NoMemory};
 
 use crate::batch::{Gate, read_payload};
-use crate::cover::Mask;
 use crate::index::Index;
 use crate::kind::Kind;
 use crate::marker::Marker;
-use crate::row::RowFault;
+use crate::row::{Mask, RowFault};
 use crate::store::Marked;
 use base_types::{Limits, StoreFault};
 use batch_log::{Log, Place};
@@ -30,7 +29,6 @@ use std::alloc::Global;
 
 /// Reads one payload, with one device call, and keeps the places of its coins.
 fn read_record<D: Disk>(
-    alloc: Global,
     disk: &mut D,
     log: &Log,
     file: u32,
@@ -46,18 +44,19 @@ fn read_record<D: Disk>(
     requires short { place.at + (5 + place.len) < 2 ^ 64 }
     ensures ok { (payloads : List (List ℕ)) (i : ℕ) (bytes : List ℕ) → Stands (D.contents disk.old) (D.left_since disk.old (D.time disk.old)) log.now payloads
         → slice_get log.now.places i ≡ Some place → slice_get payloads i ≡ Some bytes
-        → IfOk result (HasPayload kind log.now.file place.at mask.now bytes index.old index.new) × IfErr result (WhereDamaged (λ file at. IsNoPayload kind mask.now bytes)) }
+        → IfOk result (HasPayload kind log.now.file place.at mask.now bytes index.old.places index.new.places) × IfErr result (WhereDamaged (λ file at. IsNoPayload kind mask.now bytes)) }
     ensures cause { IfErr result (RecordCause log.now.file place.at (D.faults disk.old) (D.faults disk.new)) }
     ensures faults { D.faults disk.old ≤ D.faults disk.new }
     ensures contents { D.contents disk.new ≡ D.contents disk.old }
     ensures quiet { Quiet D.time D.left_since disk.old disk.new }
     ensures read { ReadAtMost log.now.file place.len (D.bytes_read disk.old) (D.bytes_read disk.new) }
+    ensures salt { index.new.salt ≡ index.old.salt }
 {
     if let Err(fault) = log.read(disk, place, payload) {
         return Err(fault);
     }
     let gate = Gate { file, at: place.at };
-    match read_payload(alloc, payload, kind, gate, mask, index) {
+    match read_payload(payload, kind, gate, mask, index) {
         Ok(marker) => Ok(marker),
         Err(RowFault::NoMemory) => Err(StoreFault::NoMemory),
         Err(RowFault::Broken) => Err(StoreFault::Damaged {
@@ -94,7 +93,7 @@ fn read_log<D: Disk>(
 ) -> Result<Vec<Marked>, StoreFault>
     requires named { log.now.file ≡ file }
     ensures ok { (payloads : List (List ℕ)) → Stands (D.contents disk.old) (D.left_since disk.old (D.time disk.old)) log.now payloads
-        → IfOk result (λ markers. HasPayloads kind file mask.now payloads index.old index.new markers.items) }
+        → IfOk result (λ markers. HasPayloads kind file mask.now payloads index.old.places index.new.places markers.items) }
     ensures damaged { (payloads : List (List ℕ)) → Stands (D.contents disk.old) (D.left_since disk.old (D.time disk.old)) log.now payloads
         → IfErr result (IsDamagedAt kind mask.now payloads) }
     ensures cause { IfErr result (OpenCause file (D.faults disk.old) (D.faults disk.new)) }
@@ -102,6 +101,7 @@ fn read_log<D: Disk>(
     ensures contents { D.contents disk.new ≡ D.contents disk.old }
     ensures quiet { Quiet D.time D.left_since disk.old disk.new }
     ensures read { ReadAtMost file (sum_by (λ (p : Place). p.len) log.now.places) (D.bytes_read disk.old) (D.bytes_read disk.new) }
+    ensures salt { index.new.salt ≡ index.old.salt }
 {
     let mut markers = Vec::new(alloc);
     let mut payload = Vec::new(alloc);
@@ -112,17 +112,7 @@ fn read_log<D: Disk>(
         let Ok(()) = payload.resize(place.len as usize, 0) else {
             return Err(StoreFault::NoMemory);
         };
-        let marker = match read_record(
-            alloc,
-            disk,
-            log,
-            file,
-            kind,
-            place,
-            mask,
-            index,
-            &mut payload,
-        ) {
+        let marker = match read_record(disk, log, file, kind, place, mask, index, &mut payload) {
             Ok(marker) => marker,
             Err(fault) => return Err(fault),
         };
@@ -154,7 +144,7 @@ pub fn open_log<D: Disk>(
     requires { limits.now.file_bytes ≤ 2 ^ 63 }
     ensures ok { (m : ℕ → List ℕ) → D.contents disk.old ≡ Some m
         → IfOk result (λ r. (payloads : List (List ℕ)) × (log_of (m file) ≡ Ok payloads) × Stands (D.contents disk.new) (D.left_since disk.new (D.time disk.new)) r.log payloads
-        × HasPayloads kind file mask.now payloads index.old index.new r.markers.items) }
+        × HasPayloads kind file mask.now payloads index.old.places index.new.places r.markers.items) }
     ensures named { IfOk result (λ r. (r.log.file ≡ file) × (r.log.limit ≡ limits.now.file_bytes)) }
     ensures damaged { (m : ℕ → List ℕ) → D.contents disk.old ≡ Some m → IfErr result (LogDamage kind mask.now (m file)) }
     ensures cause { IfErr result (OpenCause file (D.faults disk.old) (D.faults disk.new)) }
@@ -166,6 +156,7 @@ pub fn open_log<D: Disk>(
     ensures part { Leaves D.time D.left_since (At file (Torn 0 1)) disk.old disk.new }
     ensures others { OthersKept file (D.contents disk.old) (D.contents disk.new) }
     ensures read { (m : ℕ → List ℕ) → D.contents disk.old ≡ Some m → ReadAtMost file (log_reads (m file)) (D.bytes_read disk.old) (D.bytes_read disk.new) }
+    ensures salt { index.new.salt ≡ index.old.salt }
 {
     let log = match Log::open(alloc, disk, file, limits) {
         Ok(log) => log,
@@ -188,20 +179,21 @@ pub fn open_base<D: Disk>(
     index: &mut Index,
 ) -> Result<(), StoreFault>
     requires limit { limits.now.file_bytes ≤ 2 ^ 63 }
-    requires none { index.old ≡ empty }
+    requires none { index.old.places ≡ empty }
     ensures ok { (m : ℕ → List ℕ) → D.contents disk.old ≡ Some m
-        → OnOk result ((base : List (List Row)) × IsBase mask.now file m base × (index.new ≡ base_places file mask.now base)
+        → OnOk result ((base : List (List Row)) × IsBase mask.now file m base × (index.new.places ≡ base_places file mask.now base)
         × ((f : ℕ) → file ≡ Some f → HoldsLog (D.contents disk.new) (D.left_since disk.new (D.time disk.new)) f (base_texts mask.now base))) }
     ensures damaged { (m : ℕ → List ℕ) → D.contents disk.old ≡ Some m → IfErr result (BaseDamage mask.now file m) }
     ensures cause { IfErr result (FilesCause (IsBaseFile file) (D.faults disk.old) (D.faults disk.new)) }
     ensures faults { D.faults disk.old ≤ D.faults disk.new }
-    ensures any_moment { (m : ℕ → List ℕ) → D.contents disk.old ≡ Some m → Leaves D.time D.left_since (InFiles (IsBaseFile file) SameLog) disk.old disk.new }
+    ensures any_moment { (m : ℕ → List ℕ) → D.contents disk.old ≡ Some m → Leaves D.time D.left_since (InFiles (IsTiny (IsBaseFile file) m) SameLog) disk.old disk.new }
     ensures long { (m : ℕ → List ℕ) → D.contents disk.old ≡ Some m → ((f : ℕ) → file ≡ Some f → 1 < length (m f))
         → (D.contents disk.new ≡ D.contents disk.old) × Quiet D.time D.left_since disk.old disk.new }
     ensures tiny { (m : ℕ → List ℕ) (f : ℕ) → D.contents disk.old ≡ Some m → file ≡ Some f → length (m f) ≤ 1 → OnOk result (Only f (0 ∷ []) (D.left_since disk.new (D.time disk.new))) }
     ensures part { Leaves D.time D.left_since (InFiles (IsBaseFile file) (Torn 0 1)) disk.old disk.new }
     ensures others { OthersKeptBut (IsBaseFile file) (D.contents disk.old) (D.contents disk.new) }
     ensures read { (m : ℕ → List ℕ) → D.contents disk.old ≡ Some m → ReadWithin (base_reads file m) (D.bytes_read disk.old) (D.bytes_read disk.new) }
+    ensures salt { index.new.salt ≡ index.old.salt }
 {
     let Some(file) = file else {
         return Ok(());

@@ -1,14 +1,18 @@
 //! Reading rows.
 
-ghost use Rattle.std.specs.Prelude.{◌≡◌, ◌+◌, ◌≤◌, length, drop, Some, None, IfOk, IfErr, OnOk};
+ghost use Rattle.std.specs.Prelude.{◌≡◌, ◌+◌, ◌≤◌, length, drop, Some, None, IfOk, IfSome, IfNone};
 ghost use Rattle.base_types.specs.Codec.{IsBytes};
 ghost use Rattle.base_types.specs.declared.coin.Coin.{Coin};
-ghost use Rattle.coin_store.specs.Rows.{IsHead, IsValue, IsChecked, IsRow, IsBroken};
+ghost use Rattle.base_types.specs.Coins.{CoinFits};
+ghost use Rattle.coin_store.specs.Reading.{row_of};
+ghost use Rattle.coin_store.specs.Rows.{IsHead, IsValue, IsChecked, IsRow};
 
-use crate::cover::{Mask, cover};
-use base_types::{Coin, Cursor, OutPoint};
-use coin_codec::{CoinFault, read_coin, read_key};
+use base_types::{Coin, Cursor, OutPoint, obfuscate};
+use coin_codec::{CoinFault, is_coin, read_coin, read_key};
 use std::alloc::Global;
+
+/// The key with which the coins of a store are obfuscated.
+pub type Mask = [u8; 8];
 
 /// The outpoint of a row, and where the bytes of its coin stand in it.
 #[derive(Clone, Copy, Debug)]
@@ -49,7 +53,8 @@ pub fn read_head(bytes: &[u8]) -> Option<RowHead>
 
 /// The coin whose text these bytes are; none where there are no bytes.
 pub fn read_value(alloc: Global, bytes: &[u8]) -> Result<Option<Coin>, RowFault>
-    ensures { IsValue bytes.now result }
+    ensures value { IsValue bytes.now result }
+    ensures fits { IfOk result (λ coin. IfSome coin CoinFits) }
 {
     if bytes.is_empty() {
         return Ok(None);
@@ -63,28 +68,26 @@ pub fn read_value(alloc: Global, bytes: &[u8]) -> Result<Option<Coin>, RowFault>
     }
 }
 
-fn check_value(alloc: Global, bytes: &[u8]) -> Result<(), RowFault>
+// Whether the bytes are the text of a coin, or none.
+fn is_value(bytes: &[u8]) -> bool
     ensures { IsChecked bytes.now result }
 {
-    match read_value(alloc, bytes) {
-        Ok(_) => Ok(()),
-        Err(fault) => Err(fault),
-    }
+    bytes.is_empty() || is_coin(bytes)
 }
 
-/// Reads the first row, and uncovers its coin where it stands. What follows the row stays.
-pub fn read_row(alloc: Global, bytes: &mut [u8], mask: &Mask) -> Result<RowHead, RowFault>
-    ensures row { IfOk result (IsRow mask.now bytes.old) }
-    ensures behind { IfOk result (λ head. drop (head.from + head.len) bytes.new ≡ drop (head.from + head.len) bytes.old) }
-    ensures broken { IfErr result (IsBroken mask.now bytes.old) }
+/// Reads the first row, and takes the obfuscation off its coin where it stands. What follows the row stays.
+pub fn read_row(bytes: &mut [u8], mask: &Mask) -> Option<RowHead>
+    ensures row { IfSome result (IsRow mask.now bytes.old) }
+    ensures behind { IfSome result (λ head. drop (head.from + head.len) bytes.new ≡ drop (head.from + head.len) bytes.old) }
+    ensures broken { IfNone result (row_of mask.now bytes.old ≡ None) }
 {
     let Some(head) = read_head(bytes) else {
-        return Err(RowFault::Broken);
+        return None;
     };
     let value = &mut bytes[head.from..head.from + head.len];
-    cover(value, mask);
-    match check_value(alloc, value) {
-        Ok(()) => Ok(head),
-        Err(fault) => Err(fault),
+    obfuscate(value, mask, 0);
+    if !is_value(value) {
+        return None;
     }
+    Some(head)
 }

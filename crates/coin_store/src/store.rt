@@ -1,6 +1,6 @@
 //! The store itself.
 
-ghost use Rattle.std.specs.Prelude.{◌≡◌, ◌≢◌, ℕ, ◌+◌, ◌-◌, ◌^◌, ◌<◌, ◌≤◌, List, [], ◌∷◌, ◌++◌, length, drop, Contains, vec_len, vec_capacity, Option, Some, None, Ok, Err, slice_get, option_map, is_some, IfOk, IfErr, OnOk, OnErr};
+ghost use Rattle.std.specs.Prelude.{◌≡◌, ◌≢◌, ℕ, ◌+◌, ◌-◌, ◌^◌, ◌<◌, ◌≤◌, List, [], ◌∷◌, ◌++◌, length, All, Contains, vec_len, vec_capacity, Option, Some, None, Ok, Err, slice_get, option_map, is_some, IfOk, IfErr, OnOk, OnErr};
 ghost use Rattle.std.specs.Option.{option_copied};
 ghost use Rattle.disk_model.specs.Disk.{At, Torn, Leaves, Quiet, Only, OthersKept, Told, Rose, changed_at, written};
 ghost use Rattle.batch_log.specs.OpenLog.{IsOver, RoomCause};
@@ -15,19 +15,19 @@ ghost use Rattle.base_types.specs.declared.fault.StoreFault.TheVariants.{NoMemor
 ghost use Rattle.base_types.specs.declared.hash.OutPoint.{OutPoint};
 ghost use Rattle.coin_store.specs.KeyOrder.{key_order};
 ghost use Rattle.coin_store.specs.Batches.{Batch, Row, row_text, marker_text, batch_text, ValueFits, RowFits, MarkerFits};
-ghost use Rattle.coin_store.specs.Base.{IsBase, rows_after};
-ghost use Rattle.coin_store.specs.Places.{CoinPlaces, live, places_after_rows};
-ghost use Rattle.coin_store.specs.Staged.{AreRows, Agrees, KeepsEntries};
+ghost use Rattle.coin_store.specs.Base.{IsBase, base_coins, rows_after};
+ghost use Rattle.coin_store.specs.Places.{live};
+ghost use Rattle.coin_store.specs.Staged.{HasEntry, StandsFrom, places_noted};
 
 use crate::batch::{Gate, note_rows};
-use crate::cover::Mask;
 use crate::index::Index;
 use crate::key_order::in_key_order;
 use crate::kind::Kind;
 use crate::marker::Marker;
 use crate::opening::{ReadLog, open_base, open_log};
 use crate::places::CoinPlace;
-use crate::staging::{FRONT, last_gate, make_bytes, put_marker, put_row};
+use crate::row::Mask;
+use crate::staging::{FRONT, StagedRows, last_gate, put_marker};
 use crate::view::StoreView;
 use base_types::{Coin, Hash32, Keys, Limits, OutPoint, Salt, StoreFault};
 use batch_log::Log;
@@ -42,7 +42,7 @@ pub struct Marked {
 }
 
 /// The coins of a chainstate: the log of their batches, the markers of these, and the place of each coin, in the log or in
-/// the base file.
+/// the base file. In memory are some 75 bytes for each coin, and as much again for each coin of the base.
 #[derive(Drop)]
 pub struct CoinStore {
     log: Log,
@@ -54,21 +54,22 @@ pub struct CoinStore {
     start: Marker,
     markers: Vec<Marked>,
     index: Index,
-    // The payload that is to come: the place of its marker, and the rows that are staged for it.
-    staged: Vec<u8>,
+    // The places of the base's coins alone. Without a base file there are none.
+    base_index: Index,
+    staged: StagedRows,
     alloc: Global,
     ghost named: { file ≡ log.file },
 }
 
 impl CoinStore {
-    ghost use Rattle.coin_store.specs.Files.{IsOneOf, InFiles, OthersKeptBut, FilesCause, store_reads, ReadWithin};
+    ghost use Rattle.coin_store.specs.Files.{IsOneOf, IsTiny, InFiles, OthersKeptBut, FilesCause, store_reads, ReadWithin};
     ghost use Rattle.coin_store.specs.Store.{Knows, Holds, IsOpened, DamageIn, marks, texts, last_marker, marker_after, as_pair};
     ghost use Rattle.coin_store.specs.Staging.{IsStaged, IsReady, SameStore, SameRows, staged_text};
     ghost use Rattle.coin_store.specs.Viewing.{coins_seen};
 
     /// Opens the store in a coin file, on the base file if one is named: reads their logs once, that of the base first, and
     /// keeps the markers and the place of each coin. The rows of the coin file overrule those of the base. With no payload
-    /// in the coin file the marker is `At` the start. The coins of rows are covered by the key. `Damaged` names the gate
+    /// in the coin file the marker is `At` the start. The coins of rows are obfuscated with the key. `Damaged` names the gate
     /// where a log is damaged, or that of the first payload that isn't rows with coins to its end, in the base file, or a
     /// marker and rows to its end, in the coin file.
     pub fn open<D: Disk>(
@@ -85,13 +86,13 @@ impl CoinStore {
         ensures ok { (m : ℕ → List ℕ) → D.contents disk.old ≡ Some m
             → IfOk result (λ s. (base : List (List Row)) × (batches : List Batch) × IsBase key base_file m base × (log_of (m coin_file) ≡ Ok (texts key batches))
             × (base_file ≢ Some coin_file → Holds (D.contents disk.new) (D.left_since disk.new (D.time disk.new)) s base batches)) }
-        ensures opened { IfOk result (IsOpened coin_file base_file limits.now.file_bytes key start.now) }
+        ensures opened { IfOk result (IsOpened coin_file base_file limits.now.file_bytes key start.now salt.now) }
         ensures damaged { (m : ℕ → List ℕ) → D.contents disk.old ≡ Some m → IfErr result (DamageIn key base_file coin_file m) }
         ensures cause { IfErr result (FilesCause (IsOneOf base_file coin_file) (D.faults disk.old) (D.faults disk.new)) }
         ensures faults { D.faults disk.old ≤ D.faults disk.new }
 
-        // At any moment the files stand for the same payloads.
-        ensures any_moment { (m : ℕ → List ℕ) → D.contents disk.old ≡ Some m → Leaves D.time D.left_since (InFiles (IsOneOf base_file coin_file) SameLog) disk.old disk.new }
+        // At any moment a file of more than one byte has its bytes, and any other stands for no payload, as before.
+        ensures any_moment { (m : ℕ → List ℕ) → D.contents disk.old ≡ Some m → Leaves D.time D.left_since (InFiles (IsTiny (IsOneOf base_file coin_file) m) SameLog) disk.old disk.new }
 
         // Files of more than one byte stay, and any other becomes one closed gate.
         ensures long { (m : ℕ → List ℕ) → D.contents disk.old ≡ Some m → ((f : ℕ) → IsOneOf base_file coin_file f → 1 < length (m f))
@@ -106,10 +107,13 @@ impl CoinStore {
         // It reads at most five bytes more than each file has.
         ensures read { (m : ℕ → List ℕ) → D.contents disk.old ≡ Some m → ReadWithin (store_reads base_file coin_file m) (D.bytes_read disk.old) (D.bytes_read disk.new) }
     {
-        let mut index = Index::new(alloc, salt);
-        if let Err(fault) = open_base(alloc, disk, base_file, limits, &key, &mut index) {
+        let mut base_index = Index::new(alloc, salt);
+        if let Err(fault) = open_base(alloc, disk, base_file, limits, &key, &mut base_index) {
             return Err(fault);
         }
+        let Ok(mut index) = base_index.copy(alloc) else {
+            return Err(StoreFault::NoMemory);
+        };
         match open_log(
             alloc,
             disk,
@@ -127,7 +131,8 @@ impl CoinStore {
                 start: Marker::At { tip: *start },
                 markers,
                 index,
-                staged: Vec::new(alloc),
+                base_index,
+                staged: StagedRows::new(alloc),
                 alloc,
             }),
             Err(fault) => Err(fault),
@@ -157,17 +162,17 @@ impl CoinStore {
     }
 
     /// The outpoints that have coins, in the order of their key texts.
-    pub fn keys(&self, alloc: Global) -> Result<Keys, StoreFault>
-        ensures found { IfOk result (λ keys. (q : OutPoint) → list_any (eq_by_cmp outpoint_cmp q) keys ≡ is_some (live (get self.now.index q))) }
+    pub fn keys(&self) -> Result<Keys, StoreFault>
+        ensures found { IfOk result (λ keys. (q : OutPoint) → list_any (eq_by_cmp outpoint_cmp q) keys ≡ is_some (live (get self.now.index.places q))) }
         ensures held { (base : List (List Row)) (batches : List Batch) → Knows self.now base batches → IfOk result (λ keys. (q : OutPoint) → list_any (eq_by_cmp outpoint_cmp q) keys ≡ is_some (get (rows_after base batches) q)) }
         ensures once { IfOk result (IsDistinct (eq_by_cmp outpoint_cmp)) }
         ensures sorted { IfOk result (IsSorted key_order) }
         ensures cause { IfErr result (λ e. e ≡ NoMemory) }
     {
-        let Ok(keys) = self.index.outpoints(alloc) else {
+        let Ok(keys) = self.index.outpoints(self.alloc) else {
             return Err(StoreFault::NoMemory);
         };
-        let Ok(sorted) = in_key_order(alloc, &keys) else {
+        let Ok(sorted) = in_key_order(self.alloc, &keys) else {
             return Err(StoreFault::NoMemory);
         };
         Ok(sorted)
@@ -176,18 +181,23 @@ impl CoinStore {
     /// Makes room for payloads whose rows name only these outpoints: at most one more than there are outpoints, each of at
     /// most `payload` bytes, that let the file grow by at most `total` bytes together, 5 for each and those of the payloads.
     /// Staging and applying them takes no memory, and none is refused as too much. `Full` where the file would grow beyond
-    /// its limit. From Ok on no row is staged.
+    /// its limit. From Ok on no row is staged; after an error the rows that were staged, with their room, are as before.
+    ///
+    /// It takes 24 bytes and a few for each outpoint that has no coin, and less than three for each byte of a payload.
     pub fn prepare(&mut self, keys: &[OutPoint], payload: u32, total: u64) -> Result<(), StoreFault>
         ensures ok { OnOk result (IsStaged self.new keys.now payload (1 + length keys.now) total []) }
+        ensures kept { (named : List OutPoint) (most payloads growth : ℕ) (rows : List Row) → IsStaged self.old named most payloads growth rows → OnErr result (IsStaged self.new named most payloads growth rows) }
+        ensures err { OnErr result (self.new.staged ≡ self.old.staged) }
         ensures same { SameRows self.old self.new }
         ensures knows { (base : List (List Row)) (batches : List Batch) → Knows self.old base batches → Knows self.new base batches }
         ensures full { IsOver self.old.log total → result ≡ Err (StoreFault.Full self.old.log.file) }
         ensures cause { IfErr result (RoomCause self.old.log total) }
     {
         self.log.room(1 + keys.len() as u64, total)?;
-        self.index.make_room(keys)?;
+        self.index.reserve(keys.len())?;
         self.markers.reserve(keys.len() + 1)?;
-        make_bytes(&mut self.staged, payload)?;
+        self.staged.make_room(self.alloc, payload)?;
+        self.index.add_entries(keys);
         Ok(())
     }
 
@@ -195,15 +205,15 @@ impl CoinStore {
     /// outpoint is one that was prepared, and the staged rows with this one and a marker `At` fit in the prepared bytes.
     pub fn stage(&mut self, key: &OutPoint, coin: Option<&Coin>)
         requires coin { ValueFits (option_copied coin) }
-        requires room { vec_len self.old.staged + length (row_text self.old.mask (record { key = key.now; coin = option_copied coin })) ≤ vec_capacity self.old.staged }
+        requires room { vec_len self.old.staged.bytes + length (row_text self.old.mask (record { key = key.now; coin = option_copied coin })) ≤ self.old.staged.room }
         ensures staged { (keys : List OutPoint) (payload payloads total : ℕ) (rows : List Row) → IsStaged self.old keys payload payloads total rows → Contains keys key.now
             → IsStaged self.new keys payload payloads total (rows ++ record { key = key.now; coin = option_copied coin.entry } ∷ []) }
         ensures same { self.new ≡ record self.old { staged = self.new.staged } }
         ensures rows { SameRows self.old self.new }
-        ensures text { self.new.staged.items ≡ self.old.staged.items ++ row_text self.old.mask (record { key = key.now; coin = option_copied coin.entry }) }
-        ensures capacity { vec_capacity self.old.staged ≤ vec_capacity self.new.staged }
+        ensures text { self.new.staged.bytes.items ≡ self.old.staged.bytes.items ++ row_text self.old.mask (record { key = key.now; coin = option_copied coin.entry }) }
+        ensures room { self.new.staged.room ≡ self.old.staged.room }
     {
-        put_row(&mut self.staged, key, coin, &self.mask);
+        self.staged.push(key, coin, &self.mask);
     }
 
     /// Appends one payload of the marker and the staged rows, in their order. From Ok on rows and marker are those after it,
@@ -235,32 +245,36 @@ impl CoinStore {
         ensures err { OnErr result (SameRows self.old self.new) }
         ensures kept { (keys : List OutPoint) (payload payloads total : ℕ) (rows : List Row) → IsStaged self.old keys payload payloads total rows → OnErr result (IsStaged self.new keys payload payloads total rows) }
         ensures knows { (base : List (List Row)) (batches : List Batch) → Knows self.old base batches → OnErr result (Knows self.new base batches) }
+
+        // What the store knows from Ok on doesn't hang on what the disk has.
+        ensures learns { (base : List (List Row)) (batches : List Batch) (keys : List OutPoint) (payload payloads total : ℕ) (rows : List Row)
+            → Knows self.old base batches → IsStaged self.old keys payload payloads total rows → OnOk result (Knows self.new base (batches ++ record { marker = marker.now; rows = rows } ∷ [])) }
         ensures cause { IfErr result (λ e. (e ≡ Failed) × Rose (D.faults disk.old) (D.faults disk.new)) }
         ensures faults { D.faults disk.old ≤ D.faults disk.new }
     {
-        let from = put_marker(&mut self.staged, marker);
-        if let Err(fault) = self.log.append(disk, &self.staged[from..]) {
+        let from = put_marker(&mut self.staged.bytes, marker);
+        if let Err(fault) = self.log.append(disk, &self.staged.bytes[from..]) {
             return Err(fault);
         }
-        self.keep_staged(marker, FRONT - from);
+        self.keep_staged(marker, from);
         Ok(())
     }
 
-    // Keeps the marker of the log's last payload and the places of its rows, which are the staged ones: they stand at that
-    // offset of it.
-    fn keep_staged(&mut self, marker: &Marker, offset: usize)
-        requires listed { (places : List Place) × (place : Place) × (self.old.log.places ≡ places ++ place ∷ []) × (place.len ≡ offset + length (drop 65 self.old.staged.items)) × (place.len < 2 ^ 32) }
-        requires front { 65 ≤ length self.old.staged.items }
-        requires rows { (staged : List Row) × AreRows self.old.mask self.old.index (drop 65 self.old.staged.items) staged }
+    // Keeps the marker of the log's last payload and the places of its rows, which are the staged ones from that byte on.
+    fn keep_staged(&mut self, marker: &Marker, from: usize)
+        requires named { All (λ r. HasEntry self.old.index.places r.key) self.old.staged.rows.items }
+        requires listed { (places : List Place) × (place : Place) × (self.old.log.places ≡ places ++ place ∷ []) × (place.at + (5 + place.len) < 2 ^ 64 → All (StandsFrom place.at from) self.old.staged.rows.items) }
+        requires front { 65 ≤ self.old.staged.room }
         requires room { vec_len self.old.markers < vec_capacity self.old.markers }
-        ensures rows { (places : List Place) (place : Place) (coins : CoinPlaces) (staged : List Row) → self.old.log.places ≡ places ++ place ∷ []
-            → AreRows self.old.mask self.old.index (drop 65 self.old.staged.items) staged → Agrees self.old.index coins
-            → Agrees self.new.index (places_after_rows self.old.log.file self.old.mask place.at offset coins staged) }
+        ensures places { (places : List Place) (place : Place) → self.old.log.places ≡ places ++ place ∷ []
+            → self.new.index.places ≡ places_noted self.old.log.file place.at from self.old.index.places self.old.staged.rows.items }
         ensures marked { (places : List Place) (place : Place) → self.old.log.places ≡ places ++ place ∷ [] → self.new.markers.items ≡ self.old.markers.items ++ record { marker = marker.now; at = place.at } ∷ [] }
         ensures marks { vec_len self.new.markers ≡ vec_len self.old.markers + 1 }
-        ensures capacity { (vec_capacity self.old.markers ≤ vec_capacity self.new.markers) × (vec_capacity self.new.staged ≡ vec_capacity self.old.staged) }
-        ensures entries { KeepsEntries self.old.index self.new.index }
-        ensures none_left { (length self.new.staged.items ≡ 65) }
+        ensures capacity { (vec_capacity self.old.markers ≤ vec_capacity self.new.markers) × (self.new.staged.room ≡ self.old.staged.room) }
+        ensures size { self.old.index.size ≤ self.new.index.size }
+        ensures base_index { self.new.base_index ≡ self.old.base_index }
+        ensures salt { self.new.index.salt ≡ self.old.index.salt }
+        ensures none_left { (length self.new.staged.bytes.items ≡ 65) × (self.new.staged.rows.items ≡ []) }
         ensures log { self.new.log ≡ self.old.log }
         ensures base { self.new.base ≡ self.old.base }
         ensures mask { self.new.mask ≡ self.old.mask }
@@ -270,45 +284,63 @@ impl CoinStore {
             file: self.file,
             at: last_gate(&self.log),
         };
-        note_rows(&mut self.index, gate, offset, &self.staged[FRONT..]);
+        note_rows(&mut self.index, gate, from, &self.staged.rows);
         let marked = Marked {
             marker: *marker,
             at: gate.at,
         };
         self.markers.push(marked).unwrap();
-        self.staged.truncate(FRONT);
+        self.staged.clear();
     }
 
-    /// The coins of the store, as this disk has them at their places.
-    pub fn view<'a, D: Disk>(&'a self, disk: &'a mut D) -> StoreView<'a, D>
-        ensures store { result.store.now ≡ self.now }
+    /// The coins of the store, as this disk has them at their places. Records that are found broken are added to the list.
+    pub fn view<'a, D: Disk>(
+        &'a self,
+        disk: &'a mut D,
+        broken: &'a mut Vec<Gate>,
+    ) -> StoreView<'a, D>
+        ensures index { (result.index.now ≡ self.now.index) × (result.mask.now ≡ self.now.mask) }
         ensures same_reference { result.disk.ghost_name ≡ disk.entry.ghost_name }
         ensures disk { result.disk.now ≡ disk.old }
-        ensures broken { result.broken.items ≡ [] }
+        ensures broken { (result.broken.now ≡ broken.old) × (result.broken.ghost_name ≡ broken.entry.ghost_name) }
 
         // Where the store holds a base and batches, the coins that the view tells are those after them.
-        ensures held { (base : List (List Row)) (batches : List Batch) → Holds (D.contents disk.old) (D.left_since disk.old (D.time disk.old)) self.now base batches → coins_seen self.now (D.contents disk.old) ≡ Some (rows_after base batches) }
+        ensures held { (base : List (List Row)) (batches : List Batch) → Holds (D.contents disk.old) (D.left_since disk.old (D.time disk.old)) self.now base batches → coins_seen self.now.mask self.now.index (D.contents disk.old) ≡ Some (rows_after base batches) }
     {
-        StoreView::new(self, disk)
+        StoreView::new(self.alloc, &self.index, &self.mask, disk, broken)
     }
 
-    // The place of an outpoint's coin, if it has one.
-    pub(crate) fn coin_place(&self, key: &OutPoint) -> Option<CoinPlace>
-        ensures { result ≡ live (get self.now.index key.now) }
+    /// The coins of the base alone, as this disk has them at their places; none without a base file.
+    pub fn base_view<'a, D: Disk>(
+        &'a self,
+        disk: &'a mut D,
+        broken: &'a mut Vec<Gate>,
+    ) -> StoreView<'a, D>
+        ensures index { (result.index.now ≡ self.now.base_index) × (result.mask.now ≡ self.now.mask) }
+        ensures same_reference { result.disk.ghost_name ≡ disk.entry.ghost_name }
+        ensures disk { result.disk.now ≡ disk.old }
+        ensures broken { (result.broken.now ≡ broken.old) × (result.broken.ghost_name ≡ broken.entry.ghost_name) }
+
+        // Where the store holds a base, the coins that the view tells are those after it.
+        ensures held { (base : List (List Row)) (batches : List Batch) → Holds (D.contents disk.old) (D.left_since disk.old (D.time disk.old)) self.now base batches → coins_seen self.now.mask self.now.base_index (D.contents disk.old) ≡ Some (base_coins base) }
     {
-        match self.index.get(key) {
-            Some(place) if place.len > 0 => Some(place),
-            _ => None,
-        }
+        StoreView::new(self.alloc, &self.base_index, &self.mask, disk, broken)
     }
 
-    pub(crate) fn mask(&self) -> &Mask
-        ensures { result.now ≡ self.now.mask }
+    /// The outpoints that have coins in the base, in the order of their key texts; none without a base file.
+    pub fn base_keys(&self) -> Result<Keys, StoreFault>
+        ensures found { IfOk result (λ keys. (q : OutPoint) → list_any (eq_by_cmp outpoint_cmp q) keys ≡ is_some (live (get self.now.base_index.places q))) }
+        ensures held { (base : List (List Row)) (batches : List Batch) → Knows self.now base batches → IfOk result (λ keys. (q : OutPoint) → list_any (eq_by_cmp outpoint_cmp q) keys ≡ is_some (get (base_coins base) q)) }
+        ensures once { IfOk result (IsDistinct (eq_by_cmp outpoint_cmp)) }
+        ensures sorted { IfOk result (IsSorted key_order) }
+        ensures cause { IfErr result (λ e. e ≡ NoMemory) }
     {
-        &self.mask
-    }
-
-    pub(crate) fn alloc(&self) -> Global {
-        self.alloc
+        let Ok(keys) = self.base_index.outpoints(self.alloc) else {
+            return Err(StoreFault::NoMemory);
+        };
+        let Ok(sorted) = in_key_order(self.alloc, &keys) else {
+            return Err(StoreFault::NoMemory);
+        };
+        Ok(sorted)
     }
 }

@@ -1,5 +1,6 @@
 ghost use Rattle.std.specs.Prelude.{◌≡◌, ◌≤◌, length, IfOk};
-ghost use Rattle.coin_codec.specs.CoinText.{coin_text, CoinFits};
+ghost use Rattle.coin_codec.specs.CoinText.{coin_text};
+ghost use Rattle.base_types.specs.Coins.{CoinFits};
 ghost use Rattle.coin_store.specs.Batches.{marker_text};
 
 use crate::{CoinStore, Marker};
@@ -71,11 +72,13 @@ fn open<D: Disk>(alloc: Global, disk: &mut D, key: [u8; 8]) -> Result<CoinStore,
 
 /// The value of an outpoint's coin, in satoshis.
 fn value_at<D: Disk>(
+    alloc: Global,
     store: &CoinStore,
     disk: &mut D,
     key: &OutPoint,
 ) -> Result<Option<u64>, StoreFault> {
-    let mut view = store.view(disk);
+    let mut broken = Vec::new(alloc);
+    let mut view = store.view(disk, &mut broken);
     match view.get(key)? {
         Some(coin) => Ok(Some(coin.value)),
         None => Ok(None),
@@ -83,194 +86,48 @@ fn value_at<D: Disk>(
 }
 
 /// That of the first outpoint's coin.
-fn value<D: Disk>(store: &CoinStore, disk: &mut D) -> Result<Option<u64>, StoreFault> {
-    value_at(store, disk, &FIRST)
+fn value<D: Disk>(
+    alloc: Global,
+    store: &CoinStore,
+    disk: &mut D,
+) -> Result<Option<u64>, StoreFault> {
+    value_at(alloc, store, disk, &FIRST)
 }
 
-#[test]
-fn a_later_row_overrules(rt: HostRuntime) -> Result<(), Fail> {
-    let first = one_row(rt.alloc(), &[0x03, 0x32, 0x07, 0x51])?;
-    let second = one_row(rt.alloc(), &[0x03, 0x31, 0x07, 0x51])?;
-    let away = one_row(rt.alloc(), &[])?;
-    let rows: [(&[&[u8]], Option<u64>, u64); 4] = [
-        (&[], None, 0),
-        (&[&first], Some(5_000_000_000), 1),
-        (&[&first, &second], Some(500_000_000), 2),
-        (&[&first, &second, &away], None, 3),
-    ];
-    for (payloads, want, count) in rows {
-        let image = image_of(rt.alloc(), payloads)?;
-        let mut disk = MemDisk::from_image(rt.alloc(), &image)?;
-        let store = open(rt.alloc(), &mut disk, NO_KEY)?;
-        assert_eq!(rt; value(&store, &mut disk), Ok(want));
-        let tip = if count == 0 { START } else { TIP };
-        assert_eq!(rt; store.marker(), Marker::At { tip });
-        assert!(rt; store.marker_at(count).is_none());
-        if count > 0 {
-            assert_eq!(rt; store.marker_at(0), Some((Marker::At { tip: TIP }, 0)));
-        }
-        if count > 1 {
-            assert_eq!(rt; store.marker_at(1), Some((Marker::At { tip: TIP }, 77)));
-        }
-    }
-    Ok(())
-}
-
-/// The values of the coins of the first three outputs.
-fn values<D: Disk>(store: &CoinStore, disk: &mut D) -> Result<[Option<u64>; 3], StoreFault> {
-    Ok([
-        value_at(store, disk, &FIRST)?,
-        value_at(store, disk, &OutPoint { index: 1, ..FIRST })?,
-        value_at(store, disk, &OutPoint { index: 2, ..FIRST })?,
-    ])
-}
-
-/// Opens file 3 on the base file 4, which has these bytes. A batch overrules the coin of the first output, and takes that
-/// of the second away.
-fn values_on(alloc: Global, base: &[u8]) -> Result<Result<[Option<u64>; 3], StoreFault>, Fail> {
-    let mut batch = one_row(alloc, &[0x03, 0x31, 0x07, 0x51])?;
-    add_row(&mut batch, 1, &[])?;
-    let mut image = image_of(alloc, &[&batch])?;
-    image.put(4, base)?;
-    let mut disk = MemDisk::from_image(alloc, &image)?;
-    match CoinStore::open(alloc, &mut disk, 3, Some(4), &START, &LIMITS, &SALT, NO_KEY) {
-        Ok(store) => Ok(values(&store, &mut disk)),
-        Err(fault) => Ok(Err(fault)),
-    }
-}
-
+/// A base of the first two outputs' coins, and a batch that takes the second away.
 #[test]
 fn batches_overrule_a_base(rt: HostRuntime) -> Result<(), Fail> {
     let coin = [0x03, 0x32, 0x07, 0x51];
-    let mut first = Vec::new(rt.alloc());
-    add_row(&mut first, 0, &coin)?;
-    add_row(&mut first, 1, &coin)?;
-    let mut second = Vec::new(rt.alloc());
-    add_row(&mut second, 2, &coin)?;
-    let mut bare = Vec::new(rt.alloc());
-    add_row(&mut bare, 2, &[])?;
-    let whole = log_of(rt.alloc(), &[&first, &second])?;
-    let without_coin = log_of(rt.alloc(), &[&first, &bare])?;
-    let (_, cut_short) = whole.split_last().expect(&rt, "bytes");
-    // The second payload's gate is at 83.
-    let damaged = Err(StoreFault::Damaged { file: 4, at: 83 });
-    let rows: [(&[u8], Result<[Option<u64>; 3], StoreFault>); 3] = [
-        (&whole, Ok([Some(500_000_000), None, Some(5_000_000_000)])),
-        (&without_coin, damaged),
-        (cut_short, damaged),
-    ];
-    for (base, want) in rows {
-        let found = values_on(rt.alloc(), base)?;
-        assert_eq!(rt; found, want);
-    }
-    Ok(())
-}
-
-#[test]
-fn a_covered_coin_is_read_with_its_key(rt: HostRuntime) -> Result<(), Fail> {
-    let payload = one_row(rt.alloc(), &[0x02, 0x30, 0x04, 0x55])?;
-    let image = image_of(rt.alloc(), &[&payload])?;
+    let mut base = Vec::new(rt.alloc());
+    add_row(&mut base, 0, &coin)?;
+    add_row(&mut base, 1, &coin)?;
+    let mut batch = Vec::from_slice(rt.alloc(), &[0x42])?;
+    batch.extend_from_slice(&[0x22; 32])?;
+    add_row(&mut batch, 1, &[])?;
+    let mut image = image_of(rt.alloc(), &[&batch])?;
+    image.put(4, &log_of(rt.alloc(), &[&base])?)?;
     let mut disk = MemDisk::from_image(rt.alloc(), &image)?;
-    let store = open(rt.alloc(), &mut disk, [1, 2, 3, 4, 5, 6, 7, 8])?;
-    let mut view = store.view(&mut disk);
-    let coin = view.get(&FIRST)?;
-    let want = Coin {
-        value: 5_000_000_000,
-        script: Script::from_slice(rt.alloc(), &[0x51])?,
-        height: 1,
-        coinbase: true,
-    };
-    assert!(rt; coin == Some(want));
-    assert!(rt; view.get(&OutPoint { index: 1, ..FIRST })?.is_none());
-    Ok(())
-}
-
-/// A file with one byte of its bytes changed.
-fn changed(alloc: Global, bytes: &[u8], at: usize, byte: u8) -> Result<Vec<u8>, Fail> {
-    let mut changed = Vec::from_slice(alloc, bytes)?;
-    if at < changed.len() {
-        changed[at] = byte;
-    }
-    Ok(changed)
-}
-
-#[test]
-fn a_broken_form_is_damage_at_its_gate(rt: HostRuntime) -> Result<(), Fail> {
-    let first = one_row(rt.alloc(), &[0x03, 0x32, 0x07, 0x51])?;
-    // The raw form of a script that pays to a key's hash, which has a short form.
-    let mut raw = Vec::from_slice(rt.alloc(), &[0x03, 0x32, 0x1f, 0x76, 0xa9, 0x14])?;
-    raw.extend_from_slice(&[0x33; 20])?;
-    raw.extend_from_slice(&[0x88, 0xac])?;
-    let second_spelling = one_row(rt.alloc(), &raw)?;
-    let image = image_of(rt.alloc(), &[&first, &first])?;
-    let bytes = image.get(3).unwrap_or(&[]);
-    let whole = bytes.len();
-    let damaged = |at| Err(StoreFault::Damaged { file: 3, at });
-    // Byte 5 is the first payload's marker, 38 its row's letter, 72 the coin's length, 73 its first byte; the second
-    // payload's gate is at 77.
-    let rows: [(usize, u8, Result<Option<u64>, StoreFault>); 9] = [
-        (whole, 0, Ok(Some(5_000_000_000))),
-        (0, 0, Ok(None)),
-        (77, 0, Ok(Some(5_000_000_000))),
-        (5, 0x43, damaged(0)),
-        (82, 0x43, damaged(77)),
-        (38, 0x42, damaged(0)),
-        (72, 3, damaged(0)),
-        (72, 5, damaged(0)),
-        (149, 3, damaged(77)),
-    ];
-    for (at, byte, want) in rows {
-        let mut image = Image::new(rt.alloc());
-        image.put(3, &changed(rt.alloc(), bytes, at, byte)?)?;
-        let mut disk = MemDisk::from_image(rt.alloc(), &image)?;
-        let found = match open(rt.alloc(), &mut disk, NO_KEY) {
-            Ok(store) => value(&store, &mut disk),
-            Err(fault) => Err(fault),
-        };
-        assert_eq!(rt; found, want);
-    }
-    let (_, cut_short) = bytes.split_last().expect(&rt, "bytes");
-    let mut cut = Image::new(rt.alloc());
-    cut.put(3, cut_short)?;
-    let mut disk = MemDisk::from_image(rt.alloc(), &cut)?;
-    assert!(rt;
-        open(rt.alloc(), &mut disk, NO_KEY).err() == Some(StoreFault::Damaged { file: 3, at: 77 })
-    );
-    let short = image_of(rt.alloc(), &[&second_spelling])?;
-    let mut disk = MemDisk::from_image(rt.alloc(), &short)?;
-    assert!(rt;
-        open(rt.alloc(), &mut disk, NO_KEY).err() == Some(StoreFault::Damaged { file: 3, at: 0 })
-    );
-    Ok(())
-}
-
-#[test]
-fn a_view_reads_the_disk_that_it_is_given(rt: HostRuntime) -> Result<(), Fail> {
-    let payload = one_row(rt.alloc(), &[0x03, 0x32, 0x07, 0x51])?;
-    let image = image_of(rt.alloc(), &[&payload])?;
-    let mut disk = MemDisk::from_image(rt.alloc(), &image)?;
-    let store = open(rt.alloc(), &mut disk, NO_KEY)?;
-    let bytes = image.get(3).unwrap_or(&[]);
-    let rows: [(usize, u8, Result<Option<u64>, StoreFault>); 3] = [
-        (74, 0x31, Ok(Some(500_000_000))),
-        (74, 0x80, Err(StoreFault::Damaged { file: 3, at: 0 })),
-        (5, 0x43, Ok(Some(5_000_000_000))),
-    ];
-    for (at, byte, want) in rows {
-        let mut copy = Image::new(rt.alloc());
-        copy.put(3, &changed(rt.alloc(), bytes, at, byte)?)?;
-        let mut other = MemDisk::from_image(rt.alloc(), &copy)?;
-        assert_eq!(rt; value(&store, &mut other), want);
-    }
-    let (_, cut_short) = bytes.split_last().expect(&rt, "bytes");
-    let (_, cut_short) = cut_short.split_last().expect(&rt, "bytes");
-    let mut short = Image::new(rt.alloc());
-    short.put(3, cut_short)?;
-    let mut other = MemDisk::from_image(rt.alloc(), &short)?;
+    let store = CoinStore::open(
+        rt.alloc(),
+        &mut disk,
+        3,
+        Some(4),
+        &START,
+        &LIMITS,
+        &SALT,
+        NO_KEY,
+    )?;
+    let second = OutPoint { index: 1, ..FIRST };
     assert_eq!(rt;
-        value(&store, &mut other),
-        Err(StoreFault::Damaged { file: 3, at: 0 })
+        value(rt.alloc(), &store, &mut disk),
+        Ok(Some(5_000_000_000))
     );
+    assert_eq!(rt; value_at(rt.alloc(), &store, &mut disk, &second), Ok(None));
+    assert_eq!(rt; store.marker_at(0), Some((Marker::At { tip: TIP }, 0)));
+    assert_eq!(rt; store.base_keys()?.as_slice(), [FIRST, second].as_slice());
+    let mut broken = Vec::new(rt.alloc());
+    let mut base = store.base_view(&mut disk, &mut broken);
+    assert!(rt; base.get(&second)?.is_some());
     Ok(())
 }
 
@@ -287,8 +144,14 @@ fn a_failed_read_ends_the_opening(rt: HostRuntime) -> Result<(), Fail> {
     let mut disk = MemDisk::from_image(rt.alloc(), &image)?;
     disk.fail_at(&[8])?;
     let store = open(rt.alloc(), &mut disk, NO_KEY)?;
-    assert_eq!(rt; value(&store, &mut disk), Err(StoreFault::DiskFailed));
-    assert_eq!(rt; value(&store, &mut disk), Ok(Some(5_000_000_000)));
+    assert_eq!(rt;
+        value(rt.alloc(), &store, &mut disk),
+        Err(StoreFault::DiskFailed)
+    );
+    assert_eq!(rt;
+        value(rt.alloc(), &store, &mut disk),
+        Ok(Some(5_000_000_000))
+    );
     Ok(())
 }
 
@@ -310,7 +173,7 @@ fn keys_go_by_their_texts(rt: HostRuntime) -> Result<(), Fail> {
     let image = image_of(rt.alloc(), &[&payload])?;
     let mut disk = MemDisk::from_image(rt.alloc(), &image)?;
     let store = open(rt.alloc(), &mut disk, NO_KEY)?;
-    let keys = store.keys(rt.alloc())?;
+    let keys = store.keys()?;
     let want = [
         OutPoint {
             index: 255,
@@ -427,10 +290,10 @@ fn a_flush_appends_its_payloads(rt: HostRuntime) -> Result<(), Fail> {
                 image.get(3).unwrap_or(&[]),
                 want_image.get(3).unwrap_or(&[])
             );
-            assert_eq!(rt; value(&store, &mut disk), Ok(want));
+            assert_eq!(rt; value(rt.alloc(), &store, &mut disk), Ok(want));
             assert_eq!(rt; store.marker(), marker);
             let again = open(rt.alloc(), &mut disk, key)?;
-            assert_eq!(rt; value(&again, &mut disk), Ok(want));
+            assert_eq!(rt; value(rt.alloc(), &again, &mut disk), Ok(want));
             assert_eq!(rt; again.marker(), marker);
         }
     }
@@ -456,24 +319,13 @@ fn a_failed_flush_leaves_the_store(rt: HostRuntime) -> Result<(), Fail> {
             Err(StoreFault::DiskFailed)
         );
         assert_eq!(rt; store.marker(), start);
-        assert_eq!(rt; value(&store, &mut disk), Ok(None));
+        assert_eq!(rt; value(rt.alloc(), &store, &mut disk), Ok(None));
         flush(&mut store, &mut disk, &coin, &at)?;
         assert_eq!(rt; store.marker(), at);
-        assert_eq!(rt; value(&store, &mut disk), Ok(Some(5_000_000_000)));
+        assert_eq!(rt;
+            value(rt.alloc(), &store, &mut disk),
+            Ok(Some(5_000_000_000))
+        );
     }
-    Ok(())
-}
-
-#[test]
-fn room_that_no_coin_took_is_given_back(rt: HostRuntime) -> Result<(), Fail> {
-    let mut disk = MemDisk::new(rt.alloc());
-    let mut store = open(rt.alloc(), &mut disk, NO_KEY)?;
-    let coin = the_coin(rt.alloc())?;
-    flush(&mut store, &mut disk, &coin, &Marker::At { tip: TIP })?;
-    for index in 1..9 {
-        store.prepare(&[OutPoint { index, ..FIRST }], 200, 500)?;
-    }
-    assert_eq!(rt; value(&store, &mut disk), Ok(Some(5_000_000_000)));
-    assert_eq!(rt; store.keys(rt.alloc())?.as_slice(), [FIRST].as_slice());
     Ok(())
 }

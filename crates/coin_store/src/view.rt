@@ -1,30 +1,32 @@
 //! The coins of a store, each read from its place.
 
-ghost use Rattle.std.specs.Prelude.{◌≡◌, ℕ, ◌+◌, ◌≤◌, List, [], ◌∷◌, ◌++◌, length, Option, Some, None, Ok, IsSome, option_map, MatchResult, IfOk, IfErr, OnOk, OnErr};
-ghost use Rattle.std.specs.FinMap.{get as get_in};
-ghost use Rattle.disk_model.specs.Disk.{Quiet};
-ghost use Rattle.batch_log.specs.Reading.{ReadAtMost};
-ghost use Rattle.base_types.specs.Views.{BrokenPlace, FindsFault, AnswersCoin};
-ghost use Rattle.base_types.specs.declared.coin.Coin.{Coin};
-ghost use Rattle.coin_store.specs.Places.{coin_there, live};
+ghost use Rattle.std.specs.Prelude.{◌≡◌, ℕ, ◌+◌, ◌≤◌, List, [], ◌∷◌, ◌++◌, length, Contains, Option, Some, None, Ok, IsSome, option_map, MatchResult, IfOk, IfErr, IfSome, OnOk, OnErr, refl};
+ghost use Rattle.std.proofs.Common.{◌∙◌, subst};
+ghost use Rattle.disk_model.specs.Reads.{OnlyRead, OnlyReadUpTo};
+ghost use Rattle.disk_model.proofs.Reading.{only_read_none, only_read_then};
+ghost use Rattle.base_types.specs.Coins.{CoinFits};
+ghost use Rattle.base_types.specs.Views.{FindsFault, AnswersCoin};
+ghost use Rattle.coin_store.specs.Behind.{coin_bytes, coin_place, HasPlaceIn};
+ghost use Rattle.coin_store.specs.Places.{coin_there};
 ghost use Rattle.coin_store.specs.Viewing.{PlaceCause, AnswersPlace, FaultCause, IsBrokenFault, broken_places, broken_in, found_broken, coins_seen};
 ghost use Rattle.coin_store.specs.declared.places.CoinPlace.{CoinPlace};
 
 use crate::batch::Gate;
-use crate::cover::{Mask, cover};
+use crate::index::Index;
 use crate::places::CoinPlace;
-use crate::row::{RowFault, read_value};
-use crate::store::CoinStore;
-use base_types::{Coin, OutPoint, StoreFault, View};
+use crate::row::{Mask, RowFault, read_value};
+use base_types::{Coin, OutPoint, StoreFault, View, obfuscate};
 use disk_model::Disk;
 use std::alloc::Global;
 
 /// The coins of a store, as a disk has them at their places.
 #[derive(Drop)]
 pub struct StoreView<'a, D: Disk> {
-    store: &'a CoinStore,
+    index: &'a Index,
+    mask: &'a Mask,
+    alloc: Global,
     disk: &'a mut D,
-    broken: Vec<Gate>,
+    broken: &'a mut Vec<Gate>,
 }
 
 /// Reads the coin at a place, with one device call. None where its bytes aren't all there, or mean none.
@@ -35,11 +37,9 @@ fn read_place<D: Disk>(
     mask: &Mask,
 ) -> Result<Option<Coin>, StoreFault>
     ensures coin { (m : ℕ → List ℕ) → D.contents disk.old ≡ Some m → IfOk result (λ coin. coin ≡ coin_there mask.now m place) }
-    ensures cause { IfErr result (PlaceCause (D.faults disk.old) (D.faults disk.new)) }
-    ensures faults { D.faults disk.old ≤ D.faults disk.new }
-    ensures contents { D.contents disk.new ≡ D.contents disk.old }
-    ensures quiet { Quiet D.time D.left_since disk.old disk.new }
-    ensures read { ReadAtMost place.file place.len (D.bytes_read disk.old) (D.bytes_read disk.new) }
+    ensures fits { IfOk result (λ coin. IfSome coin CoinFits) }
+    ensures cause { PlaceCause (D.faults disk.old) (D.faults disk.new) result }
+    ensures read { OnlyReadUpTo D.contents D.time D.left_since D.bytes_read place.len (λ f. f ≡ place.file) disk.old disk.new }
 {
     let Ok(mut bytes) = Vec::from_elem(alloc, 0, place.len as usize) else {
         return Err(StoreFault::NoMemory);
@@ -50,7 +50,7 @@ fn read_place<D: Disk>(
     if count < bytes.len() {
         return Ok(None);
     }
-    cover(&mut bytes, mask);
+    obfuscate(&mut bytes, mask, 0);
     match read_value(alloc, &bytes) {
         Ok(coin) => Ok(coin),
         Err(RowFault::NoMemory) => Err(StoreFault::NoMemory),
@@ -59,49 +59,33 @@ fn read_place<D: Disk>(
 }
 
 impl<'a, D: Disk> StoreView<'a, D> {
-    pub(crate) fn new(store: &'a CoinStore, disk: &'a mut D) -> StoreView<'a, D>
-        ensures store { result.store.now ≡ store.now }
+    pub(crate) fn new(
+        alloc: Global,
+        index: &'a Index,
+        mask: &'a Mask,
+        disk: &'a mut D,
+        broken: &'a mut Vec<Gate>,
+    ) -> StoreView<'a, D>
+        ensures index { (result.index.now ≡ index.now) × (result.mask.now ≡ mask.now) }
         ensures same_reference { result.disk.ghost_name ≡ disk.entry.ghost_name }
         ensures disk { result.disk.now ≡ disk.old }
-        ensures broken { result.broken.items ≡ [] }
+        ensures broken { (result.broken.now ≡ broken.old) × (result.broken.ghost_name ≡ broken.entry.ghost_name) }
     {
         StoreView {
-            store,
+            index,
+            mask,
+            alloc,
             disk,
-            broken: Vec::new(store.alloc()),
-        }
-    }
-
-    /// The coin of an outpoint: None exactly where it has no place, the coin that the bytes at its place mean on this
-    /// disk, and `Damaged` with the gate of their record exactly where they aren't all there or mean none.
-    pub fn read(&mut self, key: &OutPoint) -> Result<Option<Coin>, StoreFault>
-        ensures absent { live (get_in self.old.store.now.index key.now) ≡ None → result ≡ Ok None }
-        ensures placed { (place : CoinPlace) (m : ℕ → List ℕ) → live (get_in self.old.store.now.index key.now) ≡ Some place → D.contents self.old.disk.now ≡ Some m
-            → AnswersPlace self.old.store.now.mask m place result }
-        ensures cause { (place : CoinPlace) → live (get_in self.old.store.now.index key.now) ≡ Some place → IfErr result (FaultCause (D.faults self.old.disk.now) (D.faults self.new.disk.now) place) }
-        ensures faults { D.faults self.old.disk.now ≤ D.faults self.new.disk.now }
-        ensures listed { broken_places self.new.broken.items ≡ broken_places self.old.broken.items ++ found_broken result }
-        ensures store { self.new.store.now ≡ self.old.store.now }
-        ensures same_reference { self.new.disk.ghost_name ≡ self.old.disk.ghost_name }
-        ensures contents { D.contents self.new.disk.now ≡ D.contents self.old.disk.now }
-        ensures quiet { Quiet D.time D.left_since self.old.disk.now self.new.disk.now }
-    {
-        let Some(place) = self.store.coin_place(key) else {
-            return Ok(None);
-        };
-        match read_place(self.store.alloc(), self.disk, place, self.store.mask()) {
-            Ok(Some(coin)) => Ok(Some(coin)),
-            Ok(None) => Err(self.add_broken(place)),
-            Err(fault) => Err(fault),
+            broken,
         }
     }
 
     // Lists the record of a place as broken, and says so.
     fn add_broken(&mut self, place: CoinPlace) -> StoreFault
         ensures cause { IsBrokenFault place result }
-        ensures listed { broken_places self.new.broken.items ≡ broken_places self.old.broken.items ++ broken_in result }
-        ensures store { self.new.store.now ≡ self.old.store.now }
-        ensures same_reference { self.new.disk.ghost_name ≡ self.old.disk.ghost_name }
+        ensures listed { broken_places self.new.broken.now.items ≡ broken_places self.old.broken.now.items ++ broken_in result }
+        ensures index { (self.new.index.now ≡ self.old.index.now) × (self.new.mask.now ≡ self.old.mask.now) }
+        ensures same_reference { (self.new.disk.ghost_name ≡ self.old.disk.ghost_name) × (self.new.broken.ghost_name ≡ self.old.broken.ghost_name) }
         ensures disk { self.new.disk.now ≡ self.old.disk.now }
     {
         let gate = Gate {
@@ -119,15 +103,54 @@ impl<'a, D: Disk> StoreView<'a, D> {
 }
 
 impl<'a, D: Disk> View for StoreView<'a, D> {
-    ghost coins = { λ v. coins_seen v.store.now (D.contents v.disk.now) };
+    ghost use Rattle.base_types.specs.Views.{ViewCounts};
+    ghost use Rattle.coin_store.specs.OpenIndex.{OpenIndex};
 
-    ghost faults = { λ v. D.faults v.disk.now };
+    ghost coins = { λ v. coins_seen v.mask.now v.index.now (D.contents v.disk.now) };
 
-    ghost broken = { λ v. broken_places v.broken.items };
+    ghost counts = { λ v. record { faults = D.faults v.disk.now; broken = broken_places v.broken.now.items; entries = 0 } };
 
-    ghost entries = { λ v. 0 };
+    ghost behind = { λ keys v w. (w.index.now ≡ v.index.now) × (w.mask.now ≡ v.mask.now) × (w.disk.ghost_name ≡ v.disk.ghost_name) × (w.broken.ghost_name ≡ v.broken.ghost_name)
+        × OnlyRead D.contents D.time D.left_since D.bytes_read (HasPlaceIn v.index.now keys) v.disk.now w.disk.now };
 
-    fn get(&mut self, key: &OutPoint) -> Result<Option<Coin>, StoreFault> {
-        self.read(key)
+    ghost behind_none = { λ keys v. (refl, refl, refl, refl, only_read_none D.contents D.time D.left_since D.bytes_read (HasPlaceIn v.index.now keys) v.disk.now) };
+
+    ghost behind_then = { λ keys u v w a b. (
+      b.0 ∙ a.0,
+      b.1 ∙ a.1,
+      b.2 ∙ a.2,
+      b.3 ∙ a.3,
+      only_read_then D.contents D.time D.left_since D.bytes_read (HasPlaceIn u.index.now keys) u.disk.now v.disk.now w.disk.now a.4
+          (subst (λ (i : OpenIndex). OnlyRead D.contents D.time D.left_since D.bytes_read (HasPlaceIn i keys) v.disk.now w.disk.now) a.0 b.4),
+    ) };
+
+    /// The coin of an outpoint: None exactly where it has no place, the coin that the bytes at its place mean on this
+    /// disk, and `Damaged` with the gate of their record exactly where they aren't all there or mean none.
+    fn get(&mut self, key: &OutPoint) -> Result<Option<Coin>, StoreFault>
+        ensures coin { AnswersCoin (coins_seen self.old.mask.now self.old.index.now (D.contents self.old.disk.now)) key.now result }
+        ensures fits { IfOk result (λ coin. IfSome coin CoinFits) }
+        ensures coins { coins_seen self.new.mask.now self.new.index.now (D.contents self.new.disk.now) ≡ coins_seen self.old.mask.now self.old.index.now (D.contents self.old.disk.now) }
+        ensures cause { FindsFault 1 (record { faults = D.faults self.old.disk.now; broken = broken_places self.old.broken.now.items; entries = 0 }) (record { faults = D.faults self.new.disk.now; broken = broken_places self.new.broken.now.items; entries = 0 }) result }
+        ensures behind { (keys : List OutPoint) → Contains keys key.now → (self.new.index.now ≡ self.old.index.now) × (self.new.mask.now ≡ self.old.mask.now) × (self.new.disk.ghost_name ≡ self.old.disk.ghost_name) × (self.new.broken.ghost_name ≡ self.old.broken.ghost_name)
+            × OnlyRead D.contents D.time D.left_since D.bytes_read (HasPlaceIn self.old.index.now keys) self.old.disk.now self.new.disk.now }
+
+        // What it answers by the bytes at the place.
+        ensures absent { coin_place self.old.index.now key.now ≡ None → result ≡ Ok None }
+        ensures placed { (place : CoinPlace) (m : ℕ → List ℕ) → coin_place self.old.index.now key.now ≡ Some place → D.contents self.old.disk.now ≡ Some m
+            → AnswersPlace self.old.mask.now m place result }
+        ensures fault { (place : CoinPlace) → coin_place self.old.index.now key.now ≡ Some place → IfErr result (FaultCause (D.faults self.old.disk.now) (D.faults self.new.disk.now) place) }
+        ensures listed { broken_places self.new.broken.now.items ≡ broken_places self.old.broken.now.items ++ found_broken result }
+
+        // It reads once: no more bytes than the coin has, of the file of its place alone.
+        ensures read { OnlyReadUpTo D.contents D.time D.left_since D.bytes_read (coin_bytes (coin_place self.old.index.now key.now)) (HasPlaceIn self.old.index.now (key.now ∷ [])) self.old.disk.now self.new.disk.now }
+    {
+        let Some(place) = self.index.coin_place(key) else {
+            return Ok(None);
+        };
+        match read_place(self.alloc, self.disk, place, self.mask) {
+            Ok(Some(coin)) => Ok(Some(coin)),
+            Ok(None) => Err(self.add_broken(place)),
+            Err(fault) => Err(fault),
+        }
     }
 }

@@ -2,7 +2,7 @@ use Rattle.std.proofs.Common.{◌/◌, length, arith, subst}
 use Rattle.base_types.specs.Codec.{many_at, at}
 use Rattle.block_codec.specs.declared.fault.BlockFault.{BlockFault}
 use Rattle.block_codec.specs.Reading.{Fails, header_at}
-use Rattle.block_codec.specs.Loop.{goes_on, is_done}
+use Rattle.block_codec.proofs.Loop.{goes_on, is_done}
 use Rattle.block_store.proofs.HeaderSteps.{no_fault, takes_80, all_read}
 use Rattle.block_store.proofs.payloads.read_headers.Goals as goal
 

@@ -1,7 +1,7 @@
 use Rattle.std.proofs.Common.{◌≡◌, ◌*◌, ◌-◌, length}
 use Rattle.base_types.specs.Codec.{many_at, at}
 use Rattle.block_codec.specs.Reading.{header_at}
-use Rattle.block_codec.specs.Loop.{with_front}
+use Rattle.block_codec.proofs.Loop.{with_front}
 use Rattle.block_store.proofs.payloads.read_headers.Given as goal
 
 abbrev pub invariant-loop : goal.invariant-loop

@@ -1,14 +1,14 @@
 use Rattle.std.specs.Prelude.{ℕ, Option}
 use Rattle.std.proofs.Common.{sym, subst}
 use Rattle.disk_model.specs.Disk.{Torn}
-use Rattle.batch_log.specs.Records.{SameLog}
-use Rattle.coin_store.specs.Files.{base_reads, ReadWithin}
-use Rattle.coin_store.proofs.TwoFiles.{same_still, torn_still, file_leaves, reads_one}
+use Rattle.coin_store.specs.Files.{IsBaseFile, IsTiny, base_reads, ReadWithin}
+use Rattle.coin_store.proofs.TwoFiles.{torn_still, file_leaves, log_leaves, reads_one}
 use Rattle.coin_store.proofs.opening.open_base.Goals as goal
 
 pub returns-clause-any_moment : goal.returns-clause-any_moment
 returns-clause-any_moment g c = λ m told.
-    file_leaves g.D.Disk.time g.D.Disk.left_since c.args.file SameLog c.in-Some.file c.in-Some.is same_still c.args.disk.now c.open_log.new.disk (c.open_log.ensures.any_moment m told)
+    log_leaves g.D.Disk.time g.D.Disk.left_since (IsTiny (IsBaseFile c.args.file) m) c.in-Some.file m (λ few. (c.in-Some.is, few)) c.args.disk.now c.open_log.new.disk (c.open_log.ensures.any_moment m told)
+    (λ long. (c.open_log.ensures.long m told long).1)
 
 pub returns-clause-part : goal.returns-clause-part
 returns-clause-part g c =

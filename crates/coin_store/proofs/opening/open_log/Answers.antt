@@ -1,6 +1,6 @@
 use Rattle.std.specs.Prelude.{◌<◌, length}
 use Rattle.std.proofs.Common.{◌∙◌}
-use Rattle.batch_log.specs.Reading.{read_then, read_wider}
+use Rattle.batch_log.proofs.ReadLaws.{read_then, read_wider}
 use Rattle.batch_log.specs.Records.{EndsClosed}
 use Rattle.coin_store.proofs.Opens.{only_still, closed_in, reads_within, heads_within}
 use Rattle.coin_store.proofs.Scanning.{stands_later}

@@ -1,7 +1,8 @@
 use Rattle.std.specs.Prelude.{◌≤◌, ℕ, length, get_or}
 use Rattle.std.proofs.Common.{◌∙◌, ap, subst, arith}
-use Rattle.disk_model.specs.Moments.{quiet_then}
-use Rattle.batch_log.specs.Reading.{ReadAtMost, read_then, read_wider}
+use Rattle.disk_model.proofs.Moments.{quiet_then}
+use Rattle.batch_log.specs.Reading.{ReadAtMost}
+use Rattle.batch_log.proofs.ReadLaws.{read_then, read_wider}
 use Rattle.batch_log.specs.declared.places.Place.{Place}
 use Rattle.coin_store.specs.BatchReads.{HasPayload}
 use Rattle.coin_store.proofs.Scanning.{stands_later, payload_at, there, lengths_more, lengths_within, scan_more, scan_faulty, scan_all}
@@ -14,7 +15,7 @@ returns-in-Err-clause-damaged g c = λ payloads stands.
     let place : Place = get_or c.places-places.result.now c.loop-i.i (record { at = 0; len = 0 }) in
     let here = there c.args.log.now.places c.places-places.result.now c.loop-i.i (record { at = 0; len = 0 }) c.places-places.ensures.all c.loop-i-test.true in
     let p = payload_at c.args.log.now payloads stands.places c.loop-i.i place here in
-    scan_faulty c.args.file c.args.mask.now payloads c.args.index.now c.args.kind c.loop-i.i place c.loop-i.index c.loop-i.markers.items (i.known payloads stands) p c.in-Err.fault _ _ _ c.in-Err.ensures.cause
+    scan_faulty c.args.file c.args.mask.now payloads c.args.index.now.places c.args.kind c.loop-i.i place c.loop-i.index.places c.loop-i.markers.items (i.known payloads stands) p c.in-Err.fault _ _ _ c.in-Err.ensures.cause
     (c.in-Err.ensures.ok payloads c.loop-i.i p.payload now here p.here).1
 
 pub returns-in-Err-clause-read : goal.returns-in-Err-clause-read
@@ -47,11 +48,12 @@ loop-i-preserved g c =
           let here = there c.args.log.now.places c.places-places.result.now c.loop-i.i (record { at = 0; len = 0 }) c.places-places.ensures.all c.loop-i-test.true in
           let p = payload_at c.args.log.now payloads stands.places c.loop-i.i place here in
           let b = (c.in-Ok-read_record.ensures.ok payloads c.loop-i.i p.payload now here p.here).0 in
-          scan_more c.args.file c.args.mask.now payloads c.args.index.now c.args.kind c.loop-i.i place c.loop-i.index c.read_record.new.index c.loop-i.markers.items c.keep_marker.new.markers.items c.in-Ok-read_record.marker (i.known payloads stands) p
-          (subst (λ (f : ℕ). HasPayload c.args.kind f place.at c.args.mask.now p.payload c.loop-i.index c.read_record.new.index c.in-Ok-read_record.marker) c.requires.named b) c.in_default-keep_marker.ensures.ok;
+          scan_more c.args.file c.args.mask.now payloads c.args.index.now.places c.args.kind c.loop-i.i place c.loop-i.index.places c.read_record.new.index.places c.loop-i.markers.items c.keep_marker.new.markers.items c.in-Ok-read_record.marker (i.known payloads stands) p
+          (subst (λ (f : ℕ). HasPayload c.args.kind f place.at c.args.mask.now p.payload c.loop-i.index.places c.read_record.new.index.places c.in-Ok-read_record.marker) c.requires.named b) c.in_default-keep_marker.ensures.ok;
+      salt = c.read_record.ensures.salt ∙ i.salt;
     }
 
 pub returns-clause-ok : goal.returns-clause-ok
 returns-clause-ok g c = λ payloads stands.
     let over : length c.args.log.now.places ≤ c.loop-i.i = omega (arith, c.loop-i-test.false, ap length c.places-places.ensures.all) in
-    scan_all c.args.file c.args.mask.now payloads c.args.index.now c.args.kind c.loop-i.i c.args.log.now c.loop-i.index c.loop-i.markers.items stands.places over (c.loop-i.invariant.known payloads stands)
+    scan_all c.args.file c.args.mask.now payloads c.args.index.now.places c.args.kind c.loop-i.i c.args.log.now c.loop-i.index.places c.loop-i.markers.items stands.places over (c.loop-i.invariant.known payloads stands)

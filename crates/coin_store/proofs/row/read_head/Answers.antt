@@ -1,5 +1,5 @@
 use Rattle.std.proofs.Common.{refl}
-use Rattle.base_types.specs.Codec.{IsBytes-slice}
+use Rattle.base_types.proofs.Codecs.{IsBytes-slice}
 use Rattle.coin_store.proofs.Heads.{no_key, no_length, no_value, stands}
 use Rattle.coin_store.proofs.row.read_head.Goals as goal
 

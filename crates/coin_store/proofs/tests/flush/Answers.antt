@@ -10,7 +10,7 @@ use Rattle.coin_store.specs.declared.marker.Marker.{Marker}
 use Rattle.coin_store.specs.declared.store.CoinStore.{CoinStore}
 use Rattle.coin_store.specs.Batches.{Row, value_text, row_text, marker_text, batch_text}
 use Rattle.coin_store.specs.Staging.{IsStaged, IsReady}
-use Rattle.coin_store.specs.StagingLaws.{row_fits}
+use Rattle.coin_store.proofs.StagingLaws.{row_fits}
 use Rattle.coin_store.proofs.StagedBytes.{row_long}
 use Rattle.coin_store.proofs.tests.flush.Goals as goal
 

@@ -11,9 +11,9 @@ use Rattle.block_store.proofs.Lookups.{same_place, listed, past_end, has_place}
 use Rattle.block_store.proofs.store.BlockStore.headers.Goals as goal
 
 pub returns-in_default-clause-payload : goal.returns-in_default-clause-payload
-returns-in_default-clause-payload g c headers bodies payload holds here =
+returns-in_default-clause-payload g c payloads payload holds here =
     let same = ap (λ (s : OpenStore). s.headers.places) c.self.view_is in (
-      has_place c.args.self.now.headers.places headers c.args.number payload holds.headers.places here
+      has_place c.args.self.now.headers.places payloads.headers c.args.number payload holds.headers.places here
           (ap (λ (l : List Place). slice_get l c.args.number) (sym same) ∙ sym c.place_at.ensures ∙ c.in_default.is),
       tt,
     )
@@ -36,6 +36,6 @@ returns-clause-found g c place there m told =
     subst (λ (p : Place). IfOk c.read_record.result (λ found. IsSomeAnd found (λ here. (option_and_then headers_of (whole_part p 0 (m 1)) ≡ Some here.headers) × (here.at ≡ p.at)))) it (c.read_record.ensures.found m told)
 
 pub returns-clause-payload : goal.returns-clause-payload
-returns-clause-payload g c headers bodies payload holds here =
-    let stands = subst (λ (s : OpenStore). Stands (g.D.Disk.contents c.args.disk.now) (g.D.Disk.left_since c.args.disk.now (g.D.Disk.time c.args.disk.now)) s.headers headers) (sym c.self.view_is) holds.headers in
-    c.read_record.ensures.payload headers c.args.number payload stands (sym c.in-Some.ensures) here
+returns-clause-payload g c payloads payload holds here =
+    let stands = subst (λ (s : OpenStore). Stands (g.D.Disk.contents c.args.disk.now) (g.D.Disk.left_since c.args.disk.now (g.D.Disk.time c.args.disk.now)) s.headers payloads.headers) (sym c.self.view_is) holds.headers in
+    c.read_record.ensures.payload payloads.headers c.args.number payload stands (sym c.in-Some.ensures) here

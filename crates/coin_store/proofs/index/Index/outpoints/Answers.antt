@@ -5,6 +5,7 @@ use Rattle.std.specs.Ordering.{eq_by_cmp}
 use Rattle.base_types.specs.Keys.{outpoint_cmp}
 use Rattle.base_types.specs.declared.hash.OutPoint.{OutPoint}
 use Rattle.coin_store.specs.Kept.{kept}
+use Rattle.coin_store.specs.OpenIndex.{OpenIndex}
 use Rattle.coin_store.proofs.Keeping.{Entry, kept_vacant, kept_live, one_further, kept_distinct, found}
 use Rattle.coin_store.proofs.index.Index.outpoints.Goals as goal
 
@@ -40,7 +41,7 @@ pub returns-clause-found : goal.returns-clause-found
 returns-clause-found c = λ q.
     let i = c.loop-key.invariant in
     let whole = all_of _ i.0 c.loop-key.key-iterator c.iter-key-items.result c.self.inside.places.entries i.1 c.in-None.ensures.steps.0 c.into_iter-key-iterator.ensures.into_iter_gives c.iter-key-items.ensures.rest in
-    found c.self.inside.places c.args.self.now c.loop-key.keys.items q c.iter-key-items.ensures.unique c.self.view_is (i.2 ∙ ap kept whole)
+    found c.self.inside.places c.args.self.now.places c.loop-key.keys.items q c.iter-key-items.ensures.unique (ap (λ (i : OpenIndex). i.places) c.self.view_is) (i.2 ∙ ap kept whole)
 
 pub returns-clause-once : goal.returns-clause-once
 returns-clause-once c =

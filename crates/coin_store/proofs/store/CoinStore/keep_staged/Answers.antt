@@ -1,20 +1,23 @@
-use Rattle.std.specs.Prelude.{ℕ, List, drop, refl}
-use Rattle.std.proofs.Common.{sym, subst}
-use Rattle.coin_store.specs.Places.{places_after_rows}
-use Rattle.coin_store.specs.Staged.{AreRows, Agrees}
-use Rattle.coin_store.proofs.Payloads.{payload_is}
+use Rattle.std.specs.Prelude.{ℕ, All, List}
+use Rattle.std.proofs.Common.{subst, ◌∙◌, ap, sym}
+use Rattle.coin_store.specs.Staged.{HasEntry, StandsFrom, places_noted}
+use Rattle.coin_store.specs.declared.staging.StagedRow.{StagedRow}
 use Rattle.coin_store.proofs.store.CoinStore.keep_staged.Goals as goal
 
-pub note_rows-requires-clause-rows : goal.note_rows-requires-clause-rows
-note_rows-requires-clause-rows c =
-    let s = c.args.self.now in
-    let part = payload_is c.deref.result.now s.staged.items (drop 65 s.staged.items) 65 c.deref.ensures.value refl in
-    (s.mask, c.requires.rows.0, subst (λ (b : List ℕ). AreRows s.mask s.index b c.requires.rows.0) (sym part) c.requires.rows.1)
+pub note_rows-requires-clause-named : goal.note_rows-requires-clause-named
+note_rows-requires-clause-named c = subst (λ (l : List StagedRow). All (λ (r : StagedRow). HasEntry c.args.self.now.index.places r.key) l) (sym c.deref.ensures.value) c.requires.named
 
-pub returns-clause-rows : goal.returns-clause-rows
-returns-clause-rows c = λ places place coins staged is rows agree.
+pub note_rows-requires-clause-fits : goal.note_rows-requires-clause-fits
+note_rows-requires-clause-fits c =
+    let r = c.requires.listed in
+    let last = c.last_gate.ensures r.0 r.1 r.2 in
+    subst (λ (l : List StagedRow). All (StandsFrom c.last_gate.result c.args.from) l) (sym c.deref.ensures.value)
+    (subst (λ (n : ℕ). All (StandsFrom n c.args.from) c.args.self.now.staged.rows.items) (sym last.0) (r.3 last.1))
+
+pub returns-clause-places : goal.returns-clause-places
+returns-clause-places c = λ places place is.
     let s = c.args.self.now in
-    let part = payload_is c.deref.result.now s.staged.items (drop 65 s.staged.items) 65 c.deref.ensures.value refl in
-    let noted = c.note_rows.ensures.places s.mask staged coins (subst (λ (b : List ℕ). AreRows s.mask s.index b staged) (sym part) rows) agree in
-    let named = subst (λ (f : ℕ). Agrees c.note_rows.new.index (places_after_rows f s.mask c.last_gate.result c.args.offset coins staged)) s.named noted in
-    subst (λ (n : ℕ). Agrees c.note_rows.new.index (places_after_rows s.log.file s.mask n c.args.offset coins staged)) (c.last_gate.ensures places place is).0 named
+    c.note_rows.ensures.places
+    ∙ ap (λ (l : List StagedRow). places_noted s.file c.last_gate.result c.args.from s.index.places l) c.deref.ensures.value
+    ∙ ap (λ (f : ℕ). places_noted f c.last_gate.result c.args.from s.index.places s.staged.rows.items) s.named
+    ∙ ap (λ (n : ℕ). places_noted s.log.file n c.args.from s.index.places s.staged.rows.items) (c.last_gate.ensures places place is).0

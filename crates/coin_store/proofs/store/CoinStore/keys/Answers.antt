@@ -5,9 +5,10 @@ use Rattle.std.proofs.lemmas.Map.Keys.{IsDistinct-IsPermutation}
 use Rattle.std.specs.Cmp.{eq_by_cmp_equiv}
 use Rattle.std.specs.List.Sorted.{IsPermutation}
 use Rattle.std.specs.Ordering.{eq_by_cmp}
-use Rattle.base_types.specs.Keys.{outpoint_cmp, outpoint_cmp_total}
+use Rattle.base_types.specs.Keys.{outpoint_cmp}
+use Rattle.base_types.proofs.KeyOrders.{outpoint_cmp_total}
 use Rattle.base_types.specs.declared.hash.OutPoint.{OutPoint}
-use Rattle.coin_store.specs.HeldCoins.{coins_known}
+use Rattle.coin_store.proofs.HeldCoins.{coins_known}
 use Rattle.coin_store.proofs.store.CoinStore.keys.Goals as goal
 
 pub returns-clause-found : goal.returns-clause-found

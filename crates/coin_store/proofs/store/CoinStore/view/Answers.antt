@@ -1,4 +1,4 @@
-use Rattle.coin_store.specs.HeldCoins.{held_coins}
+use Rattle.coin_store.proofs.HeldCoins.{held_coins}
 use Rattle.coin_store.proofs.store.CoinStore.view.Goals as goal
 
 pub returns-clause-held : goal.returns-clause-held

@@ -4,7 +4,7 @@ use Rattle.std.specs.Prelude.{codes, ◌≢◌, ◌<◌, unwrap_or}
 use Rattle.std.specs.FinMap.{get, insert, remove, empty, get-empty, get-remove, len-empty, nat_cmp-IsAntisymmetric, slice_cmp-IsAntisymmetric}
 use Rattle.std.specs.Ordering.{nat_cmp}
 use Rattle.std.specs.Cmp.Lexicographic.{slice_cmp, nat_list_cmp_total}
-use Rattle.base_types.specs.Keys.{hash_ties, tied_not}
+use Rattle.base_types.proofs.KeyOrders.{hash_ties, tied_not}
 use Rattle.std.specs.FinMap as finite
 use Rattle.base_types.specs.Coins.{Coins}
 use Rattle.base_types.specs.Keys.{outpoint_cmp}
@@ -23,14 +23,17 @@ use Rattle.chain_model.specs.Apply.{replayed}
 use Rattle.chain_model.specs.Choice.{coins_at}
 use Rattle.chain_model.specs.Folding.{nothing_folded, fold_of}
 use Rattle.chain_model.specs.Generated.{chain as generated_chain, file_text}
-use Rattle.chain_model.specs.Tree.{genesis_hash, first_headers, chain, chain_within, height}
+use Rattle.block_codec.specs.Genesis.{genesis_hash}
+use Rattle.chain_model.specs.Tree.{first_headers, chain, chain_within, height}
 use Rattle.command_text.specs.Lines.{line_of, pieces_between}
 use Rattle.command_text.specs.declared.line.Line.TheVariants as line
 use Rattle.command_text.specs.declared.line.LineRefused.TheVariants.{UnknownCommand, BadName}
 use Rattle.command_text.specs.declared.reply.Reply.TheVariants as says
 use Rattle.command_text.specs.declared.reply.Role.TheVariants as role
 use Rattle.store_state.specs.State.{blocks_in}
-use Rattle.store_state.specs.SmallTrees.{same_self, at_genesis, one_member}
+use Rattle.chain_model.proofs.Hashes.{same_self}
+use Rattle.chain_model.proofs.SmallTrees.{at_genesis}
+use Rattle.chain_model.proofs.Trees.{one_member}
 use Rattle.machine.specs.State.{Setting, Flush, still, begins, choice_of}
 use Rattle.machine.specs.SmallStates.{genesis_store, genesis_standing, genesis_state, at_start, genesis_flushed, asked_at_genesis}
 use Rattle.machine.specs.Steps.{Now, Step, WithBytes, answered, faulted, longest_file, folded_reply, coin_reply, OrFault, UnlessTooLong, Folds, IsFoldReply, TakesHeaders, Imports, Generation, Generates, at_end}
@@ -67,7 +70,7 @@ unfolding pieces_between
 bad_name setting now = refl
 
 flush_is : (why : Why) (given : Rules) (files : Files) (n : ℕ) → n ≡ 0
-    → genesis_flushed why given files ≡ record { now = at_start given files; replies = says.Flushed Full n genesis_hash ∷ []; events = Flush Full genesis_hash why ∷ []; faults = 0 }
+    → genesis_flushed why given files ≡ record { now = at_start given files; replies = says.Flushed Full n genesis_hash ∷ []; events = Flush Full genesis_hash why [] ∷ []; reads = 0; faults = 0 }
 flush_is why given files n e = ap (λ (at : ℕ). record (genesis_flushed why given files) { replies = says.Flushed Full at genesis_hash ∷ [] }) (sym e)
 
 pub flush_line : (setting : Setting) (given : Rules) (files : Files) → Step setting (at_start given files) (line_of (codes "flush")) (genesis_flushed Command given files)

@@ -1,31 +1,31 @@
 -- The later runs of the example above genesis meet the clauses: they open at the block.
-use Rattle.std.proofs.Common.{◌≡◌, inl, inr, ℕ, ◌≤◌, true, false, Bool, List, [], ◌∷◌, append-nil, length, Some, refl, sym, ap, subst, ◌∙◌, arith, le_refl, nat_le}
+use Rattle.std.proofs.Common.{◌≡◌, inr, ℕ, ◌≤◌, true, false, Bool, List, [], ◌∷◌, append-nil, length, Some, refl, sym, ap, subst, ◌∙◌, arith, le_refl, nat_le}
 use Rattle.disk_model.specs.Disk.{Image}
 use Rattle.base_types.specs.declared.flushes.Chain.TheVariants.{Full}
 use Rattle.base_types.specs.declared.flushes.Why.TheVariants.{End}
 use Rattle.command_text.specs.Lines.{pieces_between, without_return}
-use Rattle.store_state.specs.State.{StoreState, state_of}
-use Rattle.machine.specs.State.{Setting, Event, Flush}
-use Rattle.machine.specs.Tips.{SinceOpening, stored_in, kept_count, with_later}
+use Rattle.store_state.specs.State.{StoreState, state_of, first_rules}
+use Rattle.machine.specs.State.{Event, Flush}
+use Rattle.machine.specs.Tips.{IsAfterSome, stored_in, kept_count, with_later}
 use Rattle.machine.specs.Courses.{Course, replies_of, whole}
 use Rattle.machine.specs.Answers.{Answers, whole_replies, flushes_told_by}
 use Rattle.machine.specs.Clauses.{IsRun, AfterOpening, now_at}
-use Rattle.machine.specs.BlockRuns.{BlockFile, block_hash, block_store, block_image, IsBlockImage, later_now, later_line, later_run}
+use Rattle.machine.specs.BlockRuns.{BlockFile, block_hash, block_store, block_image, IsBlockImage, later_now, later_line, later_run, setting_of}
 use Rattle.machine.proofs.FirstRun.{block_stands}
-use Rattle.machine.proofs.Induction.{same_store}
+use Rattle.machine.proofs.Induction.{same_some}
 use Rattle.machine.proofs.WholeReplies.{whole_all}
 use Rattle.machine.proofs.StoreLaws.{StoreLaws}
 
-module _ (laws : StoreLaws) (setting : Setting) (file : BlockFile setting) where
-  later_course : Course setting (now_at (later_run setting file) (block_store setting file)) (later_run setting file).taken
+module _ (laws : StoreLaws) (limit cache : ℕ) (file : BlockFile limit cache) where
+  later_course : Course (setting_of limit cache) (now_at (later_run limit cache file) (block_store limit cache file)) (later_run limit cache file).taken
   unfolding pieces_between without_return
-  later_course = record { dids = later_line setting file ∷ []; last = later_now setting file; does = (refl, refl) }
+  later_course = record { dids = later_line limit cache file ∷ []; last = later_now limit cache file; does = (refl, refl) }
 
-  told_lines : flushes_told_by (whole_replies (length (later_run setting file).wrote) (replies_of (whole later_course))) ≡ (Full, block_hash setting file) ∷ []
+  told_lines : flushes_told_by (whole_replies (length (later_run limit cache file).wrote) (replies_of (whole later_course))) ≡ (Full, block_hash limit cache file) ∷ []
   unfolding later_course
-  told_lines = ap flushes_told_by (whole_all (replies_of (whole later_course)) (length (later_run setting file).wrote) refl)
+  told_lines = ap flushes_told_by (whole_all (replies_of (whole later_course)) (length (later_run limit cache file).wrote) refl)
 
-  answers : Answers (later_run setting file) (now_at (later_run setting file) (block_store setting file)) later_course
+  answers : Answers (later_run limit cache file) (now_at (later_run limit cache file) (block_store limit cache file)) later_course
   unfolding later_course
   answers = record {
     flushes = ([], refl);
@@ -38,12 +38,12 @@ module _ (laws : StoreLaws) (setting : Setting) (file : BlockFile setting) where
     host = omega arith;
     told = ([], told_lines);
     told_only = λ other. told_lines;
-    told_done = ([], sym told_lines ∙ sym (append-nil (flushes_told_by (whole_replies (length (later_run setting file).wrote) (replies_of (whole later_course))))));
+    told_done = ([], sym told_lines ∙ sym (append-nil (flushes_told_by (whole_replies (length (later_run limit cache file).wrote) (replies_of (whole later_course))))));
     all_files = λ done. refl;
     files = record { lines = 1; same = refl; answered = λ n within text. within };
   }
 
-  few : (t : ℕ) → kept_count t (later_run setting file).flushes ≤ 1
+  few : (t : ℕ) → kept_count t (later_run limit cache file).flushes ≤ 1
   few t = at_most (nat_le 3 t)
     where
       at_most : (b : Bool) → with_later b 0 ≤ 1
@@ -51,22 +51,22 @@ module _ (laws : StoreLaws) (setting : Setting) (file : BlockFile setting) where
       at_most false = omega arith
 
   events : List Event
-  events = Flush Full (block_hash setting file) End ∷ []
+  events = Flush Full (block_hash limit cache file) End [] ∷ []
 
-  only : (c : Image) (store : StoreState) → IsBlockImage setting file c → state_of setting.limit setting.given c ≡ Some store → block_store setting file ≡ store
-  only c store same is = same_store (block_store setting file) store (sym (block_stands laws setting file).stands_for ∙ ap (state_of setting.limit setting.given) (sym same) ∙ is)
+  only : (c : Image) (store : StoreState) → IsBlockImage limit cache file c → state_of limit first_rules c ≡ Some store → block_store limit cache file ≡ store
+  only c store same is = same_some (block_store limit cache file) store (sym (block_stands laws limit cache file).stands_for ∙ ap (state_of limit first_rules) (sym same) ∙ is)
 
   abbrev Since : ℕ → StoreState → Type 0
-  Since t store = SinceOpening (later_run setting file).opened (later_run setting file).flushes events (block_store setting file) t store
+  Since t store = IsAfterSome events t (later_run limit cache file).flushes (block_store limit cache file) store
 
-  since_block : (t : ℕ) → Since t (block_store setting file)
+  since_block : (t : ℕ) → Since t (block_store limit cache file)
   unfolding events
-  since_block t = record { tip = inl refl; stored = record { first = events; rest = []; parts = refl; enough = few t; stored = refl } }
+  since_block t = record { first = events; rest = []; parts = refl; enough = few t; made = omega arith; stored = refl }
 
-  since : (t : ℕ) (c : Image) (store : StoreState) → IsBlockImage setting file c → state_of setting.limit setting.given c ≡ Some store → Since t store
+  since : (t : ℕ) (c : Image) (store : StoreState) → IsBlockImage limit cache file c → state_of limit first_rules c ≡ Some store → Since t store
   since t c store same is = subst (Since t) (only c store same is) (since_block t)
 
-  after_opening : AfterOpening setting.limit setting.given (IsBlockImage setting file) (λ t. IsBlockImage setting file) (later_run setting file) (block_store setting file)
+  after_opening : AfterOpening limit first_rules (IsBlockImage limit cache file) (λ t. IsBlockImage limit cache file) (later_run limit cache file) (block_store limit cache file)
   unfolding later_course events
   after_opening = record {
     course = later_course;
@@ -78,22 +78,24 @@ module _ (laws : StoreLaws) (setting : Setting) (file : BlockFile setting) where
   done_at_three : (d : ℕ) → Some 3 ≡ Some d → (2 ≤ d) × (d ≤ 4)
   done_at_three d is = let e : 3 ≡ d = cc in (omega arith, omega arith)
 
-  pub later_is_run : IsRun setting.limit setting.given (IsBlockImage setting file) (λ t. IsBlockImage setting file) (later_run setting file)
+  pub later_is_run : IsRun limit first_rules (IsBlockImage limit cache file) (λ t. IsBlockImage limit cache file) (later_run limit cache file)
   later_is_run = record {
     limits = refl;
     rules = refl;
     disk = record { later = omega arith; reads = refl; reads_after = refl; earlier = λ t u c h k l. l };
     settled = λ all c l. all c l;
     opens = record {
-      found = (block_store setting file, (block_stands laws setting file).stands_for, refl, refl);
+      found = (block_store limit cache file, (block_stands laws limit cache file).stands_for, refl, refl);
       not_only = λ not. absurd cc;
       not_with = λ before. absurd cc;
       silent = λ not. absurd cc;
       idle = λ not. absurd cc;
+      untaken = λ not. absurd cc;
+      unchanged = λ not. absurd cc;
     };
-    in_order = (omega arith, ((omega arith, λ d is. done_at_three d is, λ told. (refl, refl)), tt));
-    tips = λ all t c store low high l is. inr (since t c store l is).tip;
+    in_order = (omega arith, omega arith, ((omega arith, omega arith, λ d is. done_at_three d is, λ told. (refl, refl)), tt));
+    not_opened = λ all not. absurd cc;
     after_opening = λ all store is opened.
-        subst (λ (s : StoreState). AfterOpening setting.limit setting.given (IsBlockImage setting file) (λ t. IsBlockImage setting file) (later_run setting file) s)
-        (only (block_image setting file) store refl is) after_opening;
+        subst (λ (s : StoreState). AfterOpening limit first_rules (IsBlockImage limit cache file) (λ t. IsBlockImage limit cache file) (later_run limit cache file) s)
+        (only (block_image limit cache file) store refl is) after_opening;
   }

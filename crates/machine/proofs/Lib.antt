@@ -1,16 +1,18 @@
 mod BlockHistory
-mod Early
+pub mod Early
 mod Empty
 mod FirstClauses
 mod FirstRun
 mod GenesisSteps
 mod ImportSteps
-mod Induction
-mod Joining
+pub mod Induction
+pub mod Joining
+pub mod Keeping
 mod LaterRun
-mod Marking
+pub mod LineWays
+pub mod Marking
 mod Meets
-mod Opening
-mod Replays
+pub mod Opening
 mod StoreLaws
+pub mod Telling
 mod WholeReplies

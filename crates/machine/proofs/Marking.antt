@@ -1,18 +1,7 @@
--- One list of marks after another.
+-- Which tips may stand, in words.
 use Rattle.std.proofs.Common.{◌≡◌, ◌⊎◌, inl, inr, ⊎_elim, true, false, List, [], ◌∷◌, ◌++◌, refl, sym, ap, subst}
 use Rattle.base_types.specs.declared.hash.Hash32.{Hash32}
 use Rattle.machine.specs.Marks.{Mark, StandsAt, NoneKept, IsTipOf, StandsInWords}
-
--- from the start to mid over xs, and from mid to the tip over ys
-pub join : (start : Hash32) (xs : List Mark) (mid : Hash32) (ys : List Mark) (tip : Hash32) → StandsAt start xs mid → StandsAt mid ys tip → StandsAt start (xs ++ ys) tip
-join start [] mid ys tip a b = subst (λ (h : Hash32). StandsAt h ys tip) a b
-join start (m ∷ ms) mid ys tip (inl a) b = inl (join m.tip ms mid ys tip a b)
-join start (m ∷ ms) mid ys tip (inr a) b = inr (a.0, join start ms mid ys tip a.1 b)
-
--- where none is kept the tip may be the one before
-pub stays : (start : Hash32) (ms : List Mark) → NoneKept ms → StandsAt start ms start
-stays start [] n = refl
-stays start (m ∷ ms) n = inr (n.0, stays start ms n.1)
 
 -- ---- the words
 

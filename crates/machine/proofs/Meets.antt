@@ -1,8 +1,8 @@
 -- The runs of the example meet the clauses.
-use Rattle.std.proofs.Common.{◌≡◌, inl, inr, ℕ, ◌≤◌, true, false, Bool, List, [], ◌∷◌, ◌++◌, append-nil, length, cond, Some, refl, sym, ap, subst, ◌∙◌, arith, le_refl, nat_le}
+use Rattle.std.proofs.Common.{◌≡◌, inr, ℕ, ◌≤◌, true, false, Bool, List, [], ◌∷◌, ◌++◌, append-nil, length, cond, Some, refl, sym, ap, subst, ◌∙◌, arith, le_refl, nat_le}
 use Rattle.std.proofs.lemmas.Bool.Decides.{nat_tests}
 use Rattle.disk_model.specs.Disk.{Image}
-use Rattle.chain_model.specs.Tree.{genesis_hash}
+use Rattle.block_codec.specs.Genesis.{genesis_hash}
 use Rattle.command_text.specs.Lines.{pieces_between, without_return}
 use Rattle.command_text.specs.Replies.{reply_text}
 use Rattle.command_text.specs.declared.reply.Reply.{Reply}
@@ -10,20 +10,20 @@ use Rattle.command_text.specs.declared.reply.Reply.TheVariants.{Flushed}
 use Rattle.base_types.specs.declared.flushes.Chain.TheVariants.{Full}
 use Rattle.base_types.specs.declared.flushes.Why.TheVariants.{End}
 use Rattle.machine.specs.State.{Event, Flush, height_of}
-use Rattle.store_state.specs.State.{StoreState, state_of, tip_of}
-use Rattle.machine.specs.Tips.{SinceOpening, stored_in, kept_count, with_later}
+use Rattle.store_state.specs.State.{StoreState, state_of}
+use Rattle.machine.specs.Tips.{IsAfterSome, stored_in, kept_count, with_later}
 use Rattle.machine.specs.Courses.{Course, replies_of, whole}
 use Rattle.machine.specs.Answers.{Answers, whole_replies, flushes_told_by}
 use Rattle.machine.specs.Clauses.{IsRun, AfterOpening}
 use Rattle.machine.specs.CutRuns.{no_bytes, IsEmptyDisk, from_the_start, no_blocks, first_now, empty_line, the_flush, the_run}
 use Rattle.machine.proofs.Empty.{at_empty}
-use Rattle.machine.proofs.Induction.{same_store}
+use Rattle.machine.proofs.Induction.{same_some}
 
 stands_for : (c : Image) → IsEmptyDisk c → state_of 1 from_the_start c ≡ Some no_blocks
 stands_for c e = at_empty 1 from_the_start c (λ file. ap (λ (i : Image). i file) e)
 
 only : (c : Image) (store : StoreState) → IsEmptyDisk c → state_of 1 from_the_start c ≡ Some store → store ≡ no_blocks
-only c store e is = same_store store no_blocks (sym is ∙ stands_for c e)
+only c store e is = same_some store no_blocks (sym is ∙ stands_for c e)
 
 pub the_course : Course the_run.setting first_now []
 unfolding pieces_between without_return
@@ -68,13 +68,17 @@ few t = at_most (nat_le 3 t)
     at_most false = omega arith
 
 the_events : List Event
-the_events = Flush Full genesis_hash End ∷ []
+the_events = Flush Full genesis_hash End [] ∷ []
 
-since : (t : ℕ) (store : StoreState) → store ≡ no_blocks → SinceOpening the_run.opened the_run.flushes the_events no_blocks t store
+since : (t : ℕ) (store : StoreState) → store ≡ no_blocks → IsAfterSome the_events t the_run.flushes no_blocks store
 unfolding the_events
 since t store e = record {
-  tip = inl (ap (λ (s : StoreState). tip_of s.full) e);
-  stored = record { first = the_events; rest = []; parts = refl; enough = few t; stored = ap stored_in e };
+  first = the_events;
+  rest = [];
+  parts = refl;
+  enough = few t;
+  made = omega arith;
+  stored = ap stored_in e;
 }
 
 after_opening : AfterOpening 1 from_the_start IsEmptyDisk (λ t. IsEmptyDisk) the_run no_blocks
@@ -101,8 +105,10 @@ is_run = record {
     not_with = λ before. absurd cc;
     silent = λ not. absurd cc;
     idle = λ not. absurd cc;
+    untaken = λ not. absurd cc;
+    unchanged = λ not. absurd cc;
   };
-  in_order = (omega arith, ((omega arith, λ d is. done_at_three d is, λ told. (refl, refl)), tt));
-  tips = λ all t c store low high l is. inr (inl (ap (λ (s : StoreState). tip_of s.full) (only c store l is)));
+  in_order = (omega arith, omega arith, ((omega arith, omega arith, λ d is. done_at_three d is, λ told. (refl, refl)), tt));
+  not_opened = λ all not. absurd cc;
   after_opening = λ all store is opened. subst (λ (s : StoreState). AfterOpening 1 from_the_start IsEmptyDisk (λ t. IsEmptyDisk) the_run s) (sym (only no_bytes store refl is)) after_opening;
 }

@@ -1,7 +1,7 @@
 -- What a run finds in opening, and what it answers.
 use Rattle.std.specs.Prelude.{◌≡◌, ◌≢◌, ℕ, zero, suc, ◌-◌, ◌≤◌, Bool, true, false, ◌&&◌, List, [], ◌∷◌, ◌++◌, length, map, filter, take, cond, nat_le, is_some, slice_get, Option, Some, None, Result, Ok}
 use Rattle.std.specs.List.{AllByRecursion, filter_map}
-use Rattle.std.specs.Option.{option_and_then}
+use Rattle.std.specs.Option.{option_and_then, option_map}
 use Rattle.disk_model.specs.Disk.{Image}
 use Rattle.base_types.specs.declared.flushes.Chain.{Chain}
 use Rattle.base_types.specs.declared.flushes.Flushed.{Flushed}
@@ -23,6 +23,7 @@ use Rattle.command_text.specs.declared.reply.Reply.TheVariants as says
 use Rattle.machine.specs.declared.report.Found.{Found}
 use Rattle.machine.specs.declared.report.Opened.{Opened}
 use Rattle.machine.specs.declared.report.Opened.TheVariants.{Not, Yes}
+use Rattle.store_state.specs.Roles.{full_of, snapshot_of}
 use Rattle.store_state.specs.State.{StoreState, Chainstate, state_of, tip_of}
 use Rattle.machine.specs.State.{Event, HeadersStored, BodyStored, Flush}
 use Rattle.machine.specs.Steps.{Now, Did, OthersStay}
@@ -34,11 +35,12 @@ use Rattle.machine.specs.Runs.{Run}
 abbrev pub found_of : Chainstate → Found
 found_of chainstate = record { marker = chainstate.marker; tip = tip_of chainstate }
 
--- what was found is what the contents stand for; there is one chainstate, that from genesis
+-- what was found of each chainstate is what the contents stand for
 abbrev pub FoundIn : ℕ → Rules → Image → Opened → Type 0
 FoundIn limit given contents Not = Unit {0}
 FoundIn limit given contents (Yes at full snapshot) =
-    (store : StoreState) × (state_of limit given contents ≡ Some store) × (full ≡ Some (found_of store.full)) × (snapshot ≡ None)
+    (store : StoreState) × (state_of limit given contents ≡ Some store)
+    × (full ≡ option_map found_of (full_of store.active store.role)) × (snapshot ≡ option_map found_of (snapshot_of store.active store.role))
 
 -- a run that ends so has opened the store
 abbrev pub needs_opening : Status → Bool
@@ -61,6 +63,8 @@ pub record Opens (limit : ℕ) (given : Rules) (run : Run) : Type 0 where
   pub not_with : comes_before run.status ≡ true → run.opened ≡ Not
   pub silent : run.opened ≡ Not → run.wrote ≡ []
   pub idle : run.opened ≡ Not → run.flushes ≡ []
+  pub untaken : run.opened ≡ Not → run.taken ≡ []
+  pub unchanged : run.opened ≡ Not → run.files_after ≡ run.files_before
 
 -- ---- flushes
 
@@ -76,7 +80,7 @@ name_of member = (member.chain, member.tip, member.why)
 
 abbrev pub flushes_of : List Event → List FlushName
 flushes_of [] = []
-flushes_of (Flush chain tip why ∷ events) = (chain, tip, why) ∷ flushes_of events
+flushes_of (Flush chain tip why touched ∷ events) = (chain, tip, why) ∷ flushes_of events
 flushes_of (HeadersStored headers ∷ events) = flushes_of events
 flushes_of (BodyStored hash block ∷ events) = flushes_of events
 

@@ -11,7 +11,7 @@ use Rattle.base_types.specs.declared.program.Status.TheVariants as status
 use Rattle.block_codec.specs.Frames.{frames}
 use Rattle.block_store.specs.Headers.{headers_text}
 use Rattle.io_traits.specs.Host.{Files}
-use Rattle.store_state.specs.State.{StoreState}
+use Rattle.store_state.specs.State.{StoreState, first_rules}
 use Rattle.store_state.specs.SmallImages.{image_of, payload_at}
 use Rattle.store_state.specs.SmallStores.{FirstBlock, hash_of, body_payload, store_of_block}
 use Rattle.machine.specs.declared.report.Opened.TheVariants.{Yes}
@@ -24,27 +24,31 @@ use Rattle.machine.specs.Histories.{Stop, Stopped}
 use Rattle.machine.specs.CutRuns.{no_bytes}
 use Rattle.machine.specs.SmallStates.{genesis_store, imported}
 
+-- a run's setting with these limits, under the first rules
+abbrev pub setting_of : ℕ → ℕ → Setting
+setting_of limit cache = record { limit = limit; cache = cache; given = first_rules }
+
 -- a block that can be applied above genesis, a file that has it, and records that can have it
-pub record BlockFile (setting : Setting) : Type 0 where
-  pub first : FirstBlock setting.limit setting.given
+pub record BlockFile (limit cache : ℕ) : Type 0 where
+  pub first : FirstBlock limit first_rules
   pub bytes : List ℕ
   pub short : length bytes ≤ longest_file
   pub one_frame : frames bytes None ≡ first.block ∷ []
-  pub body_fits : length (body_payload setting.limit setting.given first) < 2 ^ 32
-  pub batch_fits : length (payload_at (hash_of setting.limit setting.given first) first.rows) < 2 ^ 32
+  pub body_fits : length (body_payload limit first_rules first) < 2 ^ 32
+  pub batch_fits : length (payload_at (hash_of limit first_rules first) first.rows) < 2 ^ 32
 
 abbrev pub name : List ℕ
 name = codes "a.dat"
 
-module _ (setting : Setting) (file : BlockFile setting) where
+module _ (limit cache : ℕ) (file : BlockFile limit cache) where
   abbrev pub files : Files
   files = insert empty name file.bytes
 
   abbrev pub block_hash : Hash32
-  block_hash = hash_of setting.limit setting.given file.first
+  block_hash = hash_of limit first_rules file.first
 
   abbrev pub block_store : StoreState
-  block_store = store_of_block setting.limit setting.given file.first
+  block_store = store_of_block limit first_rules file.first
 
   -- ---- images
 
@@ -53,7 +57,7 @@ module _ (setting : Setting) (file : BlockFile setting) where
   header_image = image_of (headers_text (file.first.block.header ∷ []) ∷ []) [] []
 
   abbrev pub block_image : Image
-  block_image = image_of (headers_text (file.first.block.header ∷ []) ∷ []) (body_payload setting.limit setting.given file.first ∷ []) (payload_at block_hash file.first.rows ∷ [])
+  block_image = image_of (headers_text (file.first.block.header ∷ []) ∷ []) (body_payload limit first_rules file.first ∷ []) (payload_at block_hash file.first.rows ∷ [])
 
   -- what a crash in the first run since a reading of the clock may leave: before the flush is done at 9 also less
   abbrev pub LeftByFirst : ℕ → Image → Type 0
@@ -66,7 +70,7 @@ module _ (setting : Setting) (file : BlockFile setting) where
 
   -- the import of the file from genesis
   abbrev pub import_did : Did
-  import_did = imported setting file.first files
+  import_did = imported (setting_of limit cache) file.first files
 
   -- where a later run begins, and its one line, which is empty
   abbrev pub later_now : Now
@@ -82,7 +86,7 @@ module _ (setting : Setting) (file : BlockFile setting) where
 
   abbrev pub first_run : Run
   first_run = record {
-    setting = setting;
+    setting = setting_of limit cache;
     entered = 0;
     ended = 10;
     contents = no_bytes;
@@ -96,12 +100,12 @@ module _ (setting : Setting) (file : BlockFile setting) where
     faults_after = 0;
     status = status.Done;
     flushes = flush_at 5 9 ∷ [];
-    opened = Yes 1 (Some (found_of (genesis_store setting.given).full)) None;
+    opened = Yes 1 (Some (found_of (genesis_store first_rules).active)) None;
   }
 
   abbrev pub later_run : Run
   later_run = record {
-    setting = setting;
+    setting = setting_of limit cache;
     entered = 0;
     ended = 4;
     contents = block_image;
@@ -115,7 +119,7 @@ module _ (setting : Setting) (file : BlockFile setting) where
     faults_after = 0;
     status = status.Done;
     flushes = flush_at 2 3 ∷ [];
-    opened = Yes 1 (Some (found_of block_store.full)) None;
+    opened = Yes 1 (Some (found_of block_store.active)) None;
   }
 
   -- ---- their list

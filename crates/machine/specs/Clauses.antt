@@ -11,20 +11,21 @@ use Rattle.machine.specs.State.{begins}
 use Rattle.machine.specs.Steps.{Now}
 use Rattle.machine.specs.Courses.{Course, whole, events_of}
 use Rattle.machine.specs.Runs.{Run, IsDisk}
-use Rattle.machine.specs.Tips.{AllSettled, StaysSettled, LeavesTips, LeavesEvents, LeavesAll}
+use Rattle.machine.specs.Tips.{AllSettled, StaysSettled, LeavesAsAtEntry, LeavesEvents, LeavesAll}
 use Rattle.machine.specs.Answers.{Opens, Answers, has_line, is_done}
 
 -- the readings of a member are readings of the call in their order; a told member is done, and its flush has a line
 abbrev pub ReadsWithin : ℕ → ℕ → Flushed → Type 0
 ReadsWithin low high member =
     (low ≤ member.begun)
+    × (member.begun ≤ high)
     × ((d : ℕ) → member.done ≡ Some d → (member.begun ≤ d) × (d ≤ high))
     × (member.told ≡ true → (is_done member ≡ true) × (has_line member.why ≡ true))
 
 -- first the opening ended, and then the flushes were made
 abbrev pub InOrder : Run → Opened → Type 0
 InOrder run Not = Unit {0}
-InOrder run (Yes at full snapshot) = (run.entered ≤ at) × AllByRecursion (ReadsWithin at run.ended) run.flushes
+InOrder run (Yes at full snapshot) = (run.entered ≤ at) × (at ≤ run.ended) × AllByRecursion (ReadsWithin at run.ended) run.flushes
 
 -- where the machine begins
 abbrev pub now_at : Run → StoreState → Now
@@ -45,6 +46,6 @@ pub record IsRun (limit : ℕ) (given : Rules) (entry : Image → Type 0) (left 
   pub settled : StaysSettled limit given entry left run.entered
   pub opens : Opens limit given run
   pub in_order : InOrder run run.opened
-  pub tips : AllSettled limit given entry → LeavesTips limit given entry left run
+  pub not_opened : AllSettled limit given entry → LeavesAsAtEntry limit given entry left run
   pub after_opening : AllSettled limit given entry → (store : StoreState) → state_of limit given run.contents ≡ Some store → run.opened ≢ Not
       → AfterOpening limit given entry left run store

@@ -37,6 +37,10 @@ events_of dids = flat_map (λ did. did.events) dids
 abbrev pub text_of : List Did → List ℕ
 text_of dids = flat_map reply_text (replies_of dids)
 
+-- the bytes of bodies that may have been read
+abbrev pub reads_of : List Did → ℕ
+reads_of dids = sum_by (λ did. did.reads) dids
+
 -- the faults of the host that the machine met
 abbrev pub host_faults : List Did → ℕ
 host_faults dids = sum_by (λ did. did.faults) dids

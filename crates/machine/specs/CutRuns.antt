@@ -7,7 +7,7 @@ use Rattle.base_types.specs.declared.flushes.Flushed.{Flushed}
 use Rattle.base_types.specs.declared.flushes.Why.TheVariants.{End}
 use Rattle.base_types.specs.declared.program.Rules.{Rules}
 use Rattle.base_types.specs.declared.program.Status.TheVariants as status
-use Rattle.chain_model.specs.Tree.{genesis_hash}
+use Rattle.block_codec.specs.Genesis.{genesis_hash}
 use Rattle.chain_model.specs.HeaderRules.{first_tree}
 use Rattle.store_state.specs.State.{StoreState, chainstate_of}
 use Rattle.machine.specs.declared.report.Opened.TheVariants.{Yes}
@@ -17,6 +17,7 @@ use Rattle.machine.specs.Courses.{text_of}
 use Rattle.machine.specs.Runs.{Run}
 use Rattle.machine.specs.Answers.{found_of}
 use Rattle.machine.specs.Histories.{Stop, Stopped}
+use Rattle.store_state.specs.Roles.{Alone}
 
 abbrev pub no_bytes : Image
 no_bytes file = []
@@ -33,7 +34,7 @@ setting = record { limit = 1; cache = 100000; given = from_the_start }
 
 -- what an empty disk stands for
 abbrev pub no_blocks : StoreState
-no_blocks = record { tree = first_tree from_the_start; bodies = []; full = chainstate_of genesis_hash empty [] }
+no_blocks = record { tree = first_tree from_the_start; bodies = []; active = chainstate_of genesis_hash empty []; role = Alone }
 
 abbrev pub first_now : Now
 first_now = record { state = begins no_blocks; files = empty }
@@ -61,7 +62,7 @@ the_run = record {
   faults_after = 0;
   status = status.Done;
   flushes = the_flush ∷ [];
-  opened = Yes 1 (Some (found_of no_blocks.full)) None;
+  opened = Yes 1 (Some (found_of no_blocks.active)) None;
 }
 
 abbrev pub the_stop : Stop

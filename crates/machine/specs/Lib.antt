@@ -5,6 +5,7 @@ pub mod Clauses
 pub mod Courses
 pub mod CutRuns
 pub mod Histories
+pub mod Kept
 pub mod Marks
 pub mod Moves
 pub mod Runs
@@ -12,3 +13,4 @@ pub mod SmallStates
 pub mod State
 pub mod Steps
 pub mod Tips
+pub mod Ways

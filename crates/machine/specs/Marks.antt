@@ -4,6 +4,7 @@ use Rattle.base_types.specs.declared.flushes.Chain.{Chain}
 use Rattle.base_types.specs.declared.flushes.Chain.TheVariants.{Full, Snapshot}
 use Rattle.base_types.specs.declared.flushes.Flushed.{Flushed}
 use Rattle.base_types.specs.declared.hash.Hash32.{Hash32}
+use Rattle.machine.specs.State.{Event, HeadersStored, BodyStored, Flush}
 
 -- a flush, and whether it is kept: it was done by then
 pub record Mark : Type 0 where
@@ -14,14 +15,40 @@ abbrev pub done_by : ℕ → Option ℕ → Bool
 done_by t None = false
 done_by t (Some done) = nat_le done t
 
--- of the flushes of both chainstates those of the one from genesis
-abbrev pub if_full : Chain → Mark → List Mark → List Mark
-if_full Full mark marks = mark ∷ marks
-if_full Snapshot mark marks = marks
+abbrev pub mark_of : ℕ → Flushed → Mark
+mark_of t f = record { tip = f.tip; kept = done_by t f.done }
 
-abbrev pub marks : ℕ → List Flushed → List Mark
-marks t [] = []
-marks t (f ∷ fs) = if_full f.chain (record { tip = f.tip; kept = done_by t f.done }) (marks t fs)
+-- ---- the flushes of one chainstate
+
+-- a chainstate since it began: the tip that it then had, and its flushes
+pub record Since : Type 0 where
+  pub start : Hash32
+  pub marks : List Mark
+
+abbrev pub begun_at : Hash32 → Since
+begun_at start = record { start = start; marks = [] }
+
+abbrev pub with_mark : Mark → Since → Since
+with_mark mark since = record since { marks = since.marks ++ mark ∷ [] }
+
+-- the chainstates since they began; for now there is that from genesis alone
+pub record Past : Type 0 where
+  pub full : Since
+
+abbrev pub with_flush : Chain → Mark → Past → Past
+with_flush Full mark past = record past { full = with_mark mark past.full }
+with_flush Snapshot mark past = past
+
+-- A flush belongs to the chainstate of its name that stood when it was made: the flush events are in order those of the
+-- members.
+unfoldable pub past_after : ℕ → List Event → List Flushed → Past → Past
+past_after t [] members past = past
+past_after t (HeadersStored headers ∷ events) members past = past_after t events members past
+past_after t (BodyStored hash block ∷ events) members past = past_after t events members past
+past_after t (Flush chain tip why touched ∷ events) [] past = past
+past_after t (Flush chain tip why touched ∷ events) (member ∷ members) past = past_after t events members (with_flush chain (mark_of t member) past)
+
+-- ---- the tip
 
 -- The tip is that of the last kept member or of a later one; where none is kept, of any member, or the start.
 abbrev pub StandsAt : Hash32 → List Mark → Hash32 → Type 0

@@ -1,6 +1,7 @@
 -- What each line does.
-use Rattle.std.specs.Prelude.{◌≡◌, ◌≢◌, ◌⊎◌, ℕ, ◌+◌, ◌-◌, ◌≤◌, ◌<◌, Bool, true, false, ◌||◌, List, [], ◌∷◌, length, map, take, fold, Option, Some, None, Result, Ok, Err}
-use Rattle.std.specs.Option.{option_map}
+use Rattle.std.specs.Prelude.{◌≡◌, ◌≢◌, ◌⊎◌, ℕ, ◌+◌, ◌-◌, ◌≤◌, ◌<◌, Bool, true, false, ◌||◌, ◌==◌, List, [], ◌∷◌, length, map, take, fold, Option, Some, None, Result, Ok, Err}
+use Rattle.std.specs.Option.{option_map, option_map_or}
+use Rattle.std.specs.Ordering.{int_eq}
 use Rattle.std.specs.FinMap.{get, insert, contains_key}
 use Rattle.std.specs.FinMap as finite
 use Rattle.base_types.specs.declared.coin.Coin.{Coin}
@@ -11,9 +12,10 @@ use Rattle.base_types.specs.declared.refused.BodyRefused.{BodyRefused}
 use Rattle.block_codec.specs.declared.block.Block.{Block}
 use Rattle.block_codec.specs.declared.block.Header.{Header}
 use Rattle.block_codec.specs.Frames.{frames}
-use Rattle.block_codec.specs.Text.{hash_of_header, same_hash}
+use Rattle.block_codec.specs.Text.{hash_of_header, same_hash, every}
 use Rattle.io_traits.specs.Host.{Files}
-use Rattle.chain_model.specs.Tree.{genesis_hash, height}
+use Rattle.block_codec.specs.Genesis.{genesis_hash}
+use Rattle.chain_model.specs.Tree.{height}
 use Rattle.chain_model.specs.Generated.{chain as generated_chain, tip_of, file_text}
 use Rattle.chain_model.specs.HeaderRules.{Closed, closure, with_header}
 use Rattle.chain_model.specs.BodyRules.{body_broken, place_below}
@@ -24,9 +26,11 @@ use Rattle.command_text.specs.declared.line.LineRefused.{LineRefused}
 use Rattle.command_text.specs.declared.reply.Reply.{Reply}
 use Rattle.command_text.specs.declared.reply.Reply.TheVariants as says
 use Rattle.command_text.specs.declared.reply.TxOutFound.{TxOutFound}
+use Rattle.command_text.specs.declared.reply.Role.{Role as RoleName}
 use Rattle.command_text.specs.declared.reply.Role.TheVariants as role
 use Rattle.command_text.specs.declared.reply.Rule.TheVariants as rule
-use Rattle.machine.specs.State.{Setting, State, Moved, Event, BodyStored, header_events, still, and_then, and_reply, coins_of, height_of}
+use Rattle.store_state.specs.Roles.{Role, Alone}
+use Rattle.machine.specs.State.{Setting, Standing, State, Moved, Event, BodyStored, header_events, still, and_then, and_reply, active_coins, height_of}
 use Rattle.machine.specs.Moves.{flush, Advances}
 
 -- where the machine and the host's files stand
@@ -34,11 +38,13 @@ pub record Now : Type 0 where
   pub state : State
   pub files : Files
 
--- what a line did: the replies and events, where all stands after it, and how many faults of the host it met
+-- what a line did: the replies and events, where all stands after it, how many bytes of bodies may have been read, and how
+-- many faults of the host it met
 pub record Did : Type 0 where
   pub now : Now
   pub replies : List Reply
   pub events : List Event
+  pub reads : ℕ
   pub faults : ℕ
 
 -- the longest file that is read, in bytes
@@ -48,11 +54,11 @@ longest_file = 68719476736
 -- ---- simple outcomes
 
 abbrev pub answered : Now → List Reply → Did
-answered now replies = record { now = now; replies = replies; events = []; faults = 0 }
+answered now replies = record { now = now; replies = replies; events = []; reads = 0; faults = 0 }
 
 -- some work on the store, which leaves the host's files
 abbrev pub moved_on : Now → Moved → Did
-moved_on now moved = record { now = record now { state = moved.state }; replies = moved.replies; events = moved.events; faults = 0 }
+moved_on now moved = record { now = record now { state = moved.state }; replies = moved.replies; events = moved.events; reads = moved.reads; faults = 0 }
 
 -- the same, ended by a fault of the host
 abbrev pub faulted : Now → Moved → Did
@@ -81,11 +87,7 @@ header_of block = block.header
 
 -- headers are added one after the other and stored
 abbrev pub with_headers : State → List Header → Moved
-with_headers state headers = record {
-  state = record state { tree = fold with_header state.tree headers };
-  replies = [];
-  events = header_events headers;
-}
+with_headers state headers = record (still (record state { tree = fold with_header state.tree headers })) { events = header_events headers }
 
 -- the reply after the closure: the tree was full, or another
 abbrev pub unless_full : Bool → Reply → Reply
@@ -111,7 +113,16 @@ StoresUnless (Some why) setting state hash block moved = moved ≡ record (still
 abbrev pub is_stored : State → Hash32 → Bool
 is_stored state hash = same_hash hash genesis_hash || contains_key state.bodies hash
 
--- a frame's body is offered: nothing happens where it is stored, or its header isn't in the tree
+-- whether two headers are equal
+abbrev pub same_header : Header → Header → Bool
+same_header a b =
+    every (int_eq a.version b.version ∷ same_hash a.prev b.prev ∷ same_hash a.root b.root ∷ (a.time == b.time) ∷ (a.bits == b.bits) ∷ (a.nonce == b.nonce) ∷ [])
+
+-- the tree's header under a hash is this one
+abbrev pub is_known : State → Hash32 → Header → Bool
+is_known state hash header = option_map_or (same_header header) (get state.tree.headers hash) false
+
+-- a frame's body is offered: nothing happens where it is stored, or its header isn't that of the tree
 abbrev pub OffersBody : Bool → Bool → Setting → State → Hash32 → Block → Moved → Type 0
 OffersBody true known setting state hash block moved = moved ≡ still state
 OffersBody false false setting state hash block moved = moved ≡ still state
@@ -120,7 +131,7 @@ OffersBody false true setting state hash block moved =
 
 abbrev pub Offers : Setting → State → Block → Moved → Type 0
 Offers setting state block moved =
-    OffersBody (is_stored state (hash_of_header block.header)) (contains_key state.tree.headers (hash_of_header block.header)) setting state (hash_of_header block.header) block moved
+    OffersBody (is_stored state (hash_of_header block.header)) (is_known state (hash_of_header block.header) block.header) setting state (hash_of_header block.header) block moved
 
 -- one body after the other
 abbrev pub OffersAll : Setting → State → List Block → Moved → Type 0
@@ -136,9 +147,9 @@ more_bodies before after = finite.len after.bodies - finite.len before.bodies
 
 abbrev pub txout_of : State → Coin → TxOutFound
 txout_of state coin = record {
-  bestblock = state.full.tip;
+  bestblock = state.active.tip;
   coinbase = coin.coinbase;
-  confirmations = height_of state state.full.tip - coin.height + 1;
+  confirmations = height_of state state.active.tip - coin.height + 1;
   height = coin.height;
   script = coin.script;
   value = coin.value;
@@ -147,16 +158,17 @@ txout_of state coin = record {
 abbrev pub coin_reply : State → Option Coin → Reply
 coin_reply state coin = says.TxOut (option_map (txout_of state) coin)
 
--- the outpoint's coin at the tip; the outpoint is touched
+-- the outpoint's coin at the active tip; the outpoint is touched
 abbrev pub asked : State → OutPoint → Moved
-asked state key = record {
-  state = record state { full = record state.full { touched = key ∷ state.full.touched } };
-  replies = coin_reply state (get (coins_of state state.full) key) ∷ [];
-  events = [];
-}
+asked state key =
+    record (still (record state { active = record state.active { touched = key ∷ state.active.touched } }))
+    { replies = coin_reply state (get (active_coins state) key) ∷ [] }
+
+abbrev pub role_name : Role Standing → RoleName
+role_name Alone = role.Full
 
 abbrev pub info_reply : State → Reply
-info_reply state = says.Info None (tree_size state) (height_of state state.full.tip) role.Full state.full.tip
+info_reply state = says.Info None (tree_size state) (height_of state state.active.tip) (role_name state.role) state.active.tip
 
 -- ---- commands that read a file
 
@@ -168,7 +180,7 @@ HeadersDo setting now blocks closed did =
 
 abbrev pub import_reply : State → List Block → List Header → State → Reply
 import_reply before blocks added after =
-    says.Import (length blocks) (length added) (more_bodies before after) (height_of after after.full.tip) after.full.tip
+    says.Import (length blocks) (length added) (more_bodies before after) (height_of after after.active.tip) after.active.tip
 
 -- bodies are offered once the whole closure is stored, unless the tree is full; a fault of the host may end the command
 -- before that, or behind the bodies of a first part of the frames

@@ -1,7 +1,7 @@
 //! Runs that meet the premises of the theorem.
 
 ghost use Rattle.std.specs.Prelude.{ℕ};
-ghost use Rattle.machine.specs.CutRuns.{IsEmptyDisk, from_the_start, the_run, the_stop};
+ghost use Rattle.machine.specs.CutRuns.{IsEmptyDisk, the_run, the_stop};
 
 use crate::theorem::{History, opens_with_acknowledged_coins};
 
@@ -10,8 +10,6 @@ pub struct CutRuns;
 
 impl History for CutRuns {
     ghost limit = { 1 };
-
-    ghost given = { from_the_start };
 
     ghost run = { λ n. the_run };
 

@@ -1,6 +1,6 @@
 //! Steps of the machine from small states, one at least for each kind of line.
 
-ghost use Rattle.std.specs.Prelude.{◌≡◌, ◌<◌, ◌≤◌, ℕ, List, [], ◌∷◌, length, codes, true, Some, None, Ok, Err};
+ghost use Rattle.std.specs.Prelude.{◌≡◌, ◌<◌, ◌≤◌, ℕ, List, [], ◌∷◌, length, codes, true, Some, None, Ok, Err, ◌++◌, nat_le};
 ghost use Rattle.std.specs.FinMap.{get, insert, remove};
 ghost use Rattle.base_types.specs.declared.flushes.Why.TheVariants.{Command, End};
 ghost use Rattle.base_types.specs.declared.hash.OutPoint.{OutPoint};
@@ -10,15 +10,15 @@ ghost use Rattle.block_codec.specs.Text.{hash_of_header};
 ghost use Rattle.block_codec.specs.declared.block.Block.{Block};
 ghost use Rattle.io_traits.specs.Host.{Files};
 ghost use Rattle.chain_model.specs.Generated.{chain, file_text};
-ghost use Rattle.chain_model.specs.Tree.{genesis_hash};
+ghost use Rattle.block_codec.specs.Genesis.{genesis_hash};
 ghost use Rattle.command_text.specs.Lines.{line_of};
 ghost use Rattle.command_text.specs.declared.line.Line.TheVariants as line;
 ghost use Rattle.command_text.specs.declared.line.LineRefused.TheVariants.{UnknownCommand, BadName};
 ghost use Rattle.command_text.specs.declared.reply.Reply.TheVariants as says;
 ghost use Rattle.command_text.specs.declared.reply.Role.TheVariants as role;
 ghost use Rattle.store_state.specs.SmallStores.{FirstBlock};
-ghost use Rattle.machine.specs.Moves.{Advances, is_due};
-ghost use Rattle.machine.specs.SmallStates.{at_start, genesis_flushed, asked_at_genesis, with_its_body, moved_to_it, moved_and_flushed, imported, headers_taken};
+ghost use Rattle.machine.specs.Moves.{Advances, touched_by, count_of};
+ghost use Rattle.machine.specs.SmallStates.{at_start, genesis_flushed, asked_at_genesis, with_its_body, moved_and_flushed, imported, headers_taken};
 ghost use Rattle.machine.specs.State.{Setting, still};
 ghost use Rattle.machine.specs.Steps.{Now, Step, answered, faulted, longest_file, at_end};
 
@@ -60,6 +60,6 @@ pub fn steps_with_a_block()
     ensures headers { (setting : Setting) (first : FirstBlock setting.limit setting.given) (files : Files) (name bytes : List ℕ)
         → get files name ≡ Some bytes → length bytes ≤ longest_file → frames bytes None ≡ first.block ∷ []
         → Step setting (at_start setting.given files) (Ok (line.Headers name None)) (headers_taken setting first files) }
-    ensures flush { (setting : Setting) (first : FirstBlock setting.limit setting.given) → is_due setting (moved_to_it setting.limit setting.given first) ≡ true
+    ensures flush { (setting : Setting) (first : FirstBlock setting.limit setting.given) → nat_le setting.cache (count_of (touched_by first.block ++ [])) ≡ true
         → Advances setting (with_its_body setting.limit setting.given first) (moved_and_flushed setting.limit setting.given first) }
 {}

@@ -1,20 +1,17 @@
 //! The crash theorem, over lists of runs.
 
-ghost use Rattle.std.specs.Prelude.{◌+◌, ◌↔◌, ℕ, List};
+ghost use Rattle.std.specs.Prelude.{◌+◌, ◌↔◌, ◌≢◌, ℕ, List};
 ghost use Rattle.base_types.specs.declared.hash.Hash32.{Hash32};
-ghost use Rattle.base_types.specs.declared.program.Rules.{Rules};
 ghost use Rattle.machine.specs.Clauses.{IsRun};
-ghost use Rattle.machine.specs.Histories.{Stop, GoesOn, BeginsEmpty, OpensWell, ToldAreKept, history};
+ghost use Rattle.machine.specs.Histories.{Stop, GoesOn, BeginsEmpty, OpensWell, ToldAreKept};
 ghost use Rattle.machine.specs.Marks.{Mark, StandsAt, StandsInWords};
 ghost use Rattle.machine.specs.Runs.{Run};
-ghost use Rattle.machine.specs.Tips.{IfOpened};
+ghost use Rattle.machine.specs.declared.report.Opened.TheVariants.{Not};
 
 /// A list of runs as values: run n begins on a disk that is one of the images `entry n`, and a crash in it since a reading
-/// t of the clock may leave those of `left n t`. All have the same limit on headers and the same rules.
+/// t of the clock may leave those of `left n t`. All have the same limit on headers; the rules are each run's own.
 pub trait History {
     ghost limit: { ℕ };
-
-    ghost given: { Rules };
 
     ghost run: { ℕ → Run };
 
@@ -30,9 +27,9 @@ pub trait History {
 /// one, and what it answers follows from them. A flush that was told was done.
 pub fn opens_with_acknowledged_coins<H: History>()
     requires first { BeginsEmpty (H.entry 0) }
-    requires runs { (n : ℕ) → IsRun H.limit H.given (H.entry n) (H.left n) (H.run n) }
+    requires runs { (n : ℕ) → IsRun H.limit (H.run n).setting.given (H.entry n) (H.left n) (H.run n) }
     requires next { (n : ℕ) → GoesOn (H.stop n) (H.left n) (H.run n) (H.entry (n + 1)) (H.run (n + 1)) }
-    ensures opens { (n : ℕ) → IfOpened (H.run n).opened (OpensWell H.limit H.given (history H.run H.stop n) (H.run n)) }
+    ensures opens { (n : ℕ) → (H.run n).opened ≢ Not → OpensWell H.limit H.run H.stop n }
     ensures told { (n : ℕ) → ToldAreKept (H.run n) }
 {}
 

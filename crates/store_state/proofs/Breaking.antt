@@ -8,12 +8,13 @@ use Rattle.batch_log.specs.Records.{log}
 use Rattle.base_types.specs.Views.{BrokenPlace}
 use Rattle.base_types.specs.declared.program.Rules.{Rules}
 use Rattle.block_codec.specs.declared.block.Header.{Header}
-use Rattle.chain_model.specs.Tree.{Tree, genesis_hash}
-use Rattle.chain_model.specs.HeaderRules.{first_tree, grown}
+use Rattle.chain_model.specs.Tree.{Tree}
+use Rattle.block_codec.specs.Genesis.{genesis_hash}
+use Rattle.chain_model.specs.HeaderRules.{first_tree, tree_with}
 use Rattle.coin_store.specs.Batches.{Batch}
 use Rattle.coin_store.specs.Reading.{batch_of}
 use Rattle.block_store.specs.Headers.{headers_of}
-use Rattle.store_state.specs.State.{Record, Read, header_file, body_file, coin_file, first_key, StoreState, StoredBody, stored_body, settled_batch, tips_of, is_in, is_reached, whole_log, records_of, each_of, each_passes, there_or_broken, tree_after, last_reached, read_tree, read_bodies, read_batches, read_store}
+use Rattle.store_state.specs.State.{Record, Read, header_file, body_file, coin_file, first_key, StoreState, StoredBody, stored_body, settled_batch, tips_of, is_in, is_reached, whole_log, records_of, each_of, each_passes, there_or_broken, tree_after, last_reached, read_tree, read_bodies, read_batches, read_store, first_rules, rules_in}
 use Rattle.store_state.specs.Breaks.{Records, IsBroken, DamagedLog, NoHeaders, NoBody, NoBatch, RefusedHeader, UnknownBody, UnknownTip, Unreached, BreaksAre}
 use Rattle.store_state.proofs.EachRecord.{ok_parts, err_parts, bind_ok, there_ok, there_err, true_ok, true_err, each_err, each_split, each_first, each_stood, passes_err, passes_ok, passes_each}
 
@@ -41,14 +42,14 @@ pub record StopsAt (limit : ℕ) (from : Tree) (lists : List (Record (List Heade
   pub tree : Tree
   pub is : lists ≡ before ++ one ∷ after
   pub grows : tree_after limit from before ≡ Ok tree
-  pub stops : grown limit tree one.1 ≡ None
+  pub stops : tree_with limit tree one.1 ≡ None
   pub names : place ≡ record { file = header_file; at = one.0 }
 
 tree_err : (limit : ℕ) (from : Tree) (lists : List (Record (List Header))) (place : BrokenPlace) → tree_after limit from lists ≡ Err place → StopsAt limit from lists place
 unfolding tree_after
 tree_err limit from [] place e = absurd cc
 tree_err limit from (one ∷ others) place e = ⊎_elim
-    (λ first. let f = there_err header_file one.0 (grown limit from one.1) place first in
+    (λ first. let f = there_err header_file one.0 (tree_with limit from one.1) place first in
     record { before = []; one = one; after = others; tree = from; is = refl; grows = refl; stops = f.0; names = f.1 })
     (λ rest. let s = tree_err limit rest.0 others place rest.2 in
     record {
@@ -57,23 +58,23 @@ tree_err limit from (one ∷ others) place e = ⊎_elim
       after = s.after;
       tree = s.tree;
       is = ap (λ (rs : List (Record (List Header))). one ∷ rs) s.is;
-      grows = bind_ok (there_or_broken header_file one.0 (grown limit from one.1)) _ rest.0 s.tree rest.1 s.grows;
+      grows = bind_ok (there_or_broken header_file one.0 (tree_with limit from one.1)) _ rest.0 s.tree rest.1 s.grows;
       stops = s.stops;
       names = s.names;
     })
-    (err_parts (there_or_broken header_file one.0 (grown limit from one.1)) _ place e)
+    (err_parts (there_or_broken header_file one.0 (tree_with limit from one.1)) _ place e)
 
 tree_split : (limit : ℕ) (from : Tree) (before : List (Record (List Header))) (one : Record (List Header)) (after : List (Record (List Header))) (mid all : Tree)
-    → tree_after limit from before ≡ Ok mid → tree_after limit from (before ++ one ∷ after) ≡ Ok all → (next : Tree) × (grown limit mid one.1 ≡ Some next)
+    → tree_after limit from before ≡ Ok mid → tree_after limit from (before ++ one ∷ after) ≡ Ok all → (next : Tree) × (tree_with limit mid one.1 ≡ Some next)
 unfolding tree_after
 tree_split limit from [] one after mid all a b =
-    let p = ok_parts (there_or_broken header_file one.0 (grown limit from one.1)) _ all b in
+    let p = ok_parts (there_or_broken header_file one.0 (tree_with limit from one.1)) _ all b in
     let same : from ≡ mid = cc in
-    (p.0, subst (λ (t : Tree). grown limit t one.1 ≡ Some p.0) same (there_ok header_file one.0 (grown limit from one.1) p.0 p.1))
+    (p.0, subst (λ (t : Tree). tree_with limit t one.1 ≡ Some p.0) same (there_ok header_file one.0 (tree_with limit from one.1) p.0 p.1))
 tree_split limit from (x ∷ xs) one after mid all a b =
-    let p = ok_parts (there_or_broken header_file x.0 (grown limit from x.1)) _ mid a in
-    let q = ok_parts (there_or_broken header_file x.0 (grown limit from x.1)) _ all b in
-    let same : p.0 ≡ q.0 = same_ok (there_or_broken header_file x.0 (grown limit from x.1)) p.0 q.0 p.1 q.1 in
+    let p = ok_parts (there_or_broken header_file x.0 (tree_with limit from x.1)) _ mid a in
+    let q = ok_parts (there_or_broken header_file x.0 (tree_with limit from x.1)) _ all b in
+    let same : p.0 ≡ q.0 = same_ok (there_or_broken header_file x.0 (tree_with limit from x.1)) p.0 q.0 p.1 q.1 in
     tree_split limit q.0 xs one after mid all (subst (λ (t : Tree). tree_after limit t xs ≡ Ok mid) same p.2) q.2
   where
     same_ok : {A : Type 0} (r : Read A) (a b : A) → r ≡ Ok a → r ≡ Ok b → a ≡ b
@@ -84,6 +85,11 @@ abbrev pub at_batch : List ℕ → Option Batch
 at_batch payload = settled_batch (batch_of first_key payload)
 
 -- ---- what is broken where the reading stops
+
+-- where a record of headers stands, the first rules hold
+some_stored : (given : Rules) (before : Records) (one : Record (List ℕ)) (after : Records) → rules_in given (before ++ one ∷ after) ≡ first_rules
+some_stored given [] one after = refl
+some_stored given (x ∷ before) one after = refl
 
 module _ (limit : ℕ) (given : Rules) (image : Image) where
   abbrev Broken : BrokenPlace → Type 0
@@ -104,19 +110,20 @@ module _ (limit : ℕ) (given : Rules) (image : Image) where
       (λ rest. ⊎_elim
       (λ stuck. let s = each_err header_file headers_of rest.0 place stuck in
       subst Broken (sym s.holds.1) (NoHeaders s.before s.after s.one.0 s.one.1 (rest.1 ∙ ap (λ (rs : Records). Ok rs) s.is) s.holds.0))
-      (λ lists. refused rest.0 rest.1 lists.0 lists.1 place (tree_err limit (first_tree given) lists.0 place lists.2))
+      (λ lists. refused rest.0 rest.1 lists.0 lists.1 place (tree_err limit (first_tree (rules_in given rest.0)) lists.0 place lists.2))
       (err_parts (each_of header_file headers_of rest.0) _ place rest.2))
       (err_parts (records_of image header_file) _ place e)
     where
       refused : (records : Records) → records_of image header_file ≡ Ok records → (lists : List (Record (List Header))) → each_of header_file headers_of records ≡ Ok lists
-          → (place : BrokenPlace) → StopsAt limit (first_tree given) lists place → Broken place
+          → (place : BrokenPlace) → StopsAt limit (first_tree (rules_in given records)) lists place → Broken place
       refused records is lists say place s =
           let t = each_stood header_file headers_of records s.before s.one s.after (say ∙ ap (λ (l : List (Record (List Header))). Ok l) s.is) in
-          subst Broken (sym s.names) (RefusedHeader t.0 t.2 s.one.0 t.1 s.before s.tree s.one.1 (is ∙ ap (λ (rs : Records). Ok rs) t.3) t.4 s.grows t.6 s.stops)
+          subst Broken (sym s.names) (RefusedHeader t.0 t.2 s.one.0 t.1 s.before s.tree s.one.1 (is ∙ ap (λ (rs : Records). Ok rs) t.3) t.4
+          (subst (λ (rules : Rules). tree_after limit (first_tree rules) s.before ≡ Ok s.tree) (ap (rules_in given) t.3 ∙ some_stored given t.0 (s.one.0, t.1) t.2) s.grows) t.6 s.stops)
 
   -- the bodies
   bodies_break : (tree : Tree) → read_tree limit given image ≡ Ok tree → (place : BrokenPlace) → read_bodies tree image ≡ Err place → Broken place
-  bodies_break tree grown place e = ⊎_elim
+  bodies_break tree tree_with place e = ⊎_elim
       (λ log. damaged body_file (inr (inl refl)) place log)
       (λ rest. ⊎_elim
       (λ stuck. let s = each_err body_file stored_body rest.0 place stuck in
@@ -124,7 +131,7 @@ module _ (limit : ℕ) (given : Rules) (image : Image) where
       (λ bodies. ⊎_elim
       (λ unknown. let s = passes_err body_file (λ body. is_in tree body.hash) bodies.0 place unknown in
       let t = each_stood body_file stored_body rest.0 s.before s.one s.after (bodies.1 ∙ ap (λ (l : List (Record StoredBody)). Ok l) s.is) in
-      subst Broken (sym s.holds.1) (UnknownBody t.0 t.2 s.one.0 t.1 tree s.one.1 (rest.1 ∙ ap (λ (rs : Records). Ok rs) t.3) grown t.6 s.holds.0))
+      subst Broken (sym s.holds.1) (UnknownBody t.0 t.2 s.one.0 t.1 tree s.one.1 (rest.1 ∙ ap (λ (rs : Records). Ok rs) t.3) tree_with t.6 s.holds.0))
       (λ known. absurd cc)
       (err_parts (each_passes body_file (λ body. is_in tree body.hash) bodies.0) _ place bodies.2))
       (err_parts (each_of body_file stored_body rest.0) _ place rest.2))
@@ -152,7 +159,7 @@ module _ (limit : ℕ) (given : Rules) (image : Image) where
 
   batches_break : (tree : Tree) → read_tree limit given image ≡ Ok tree → (bodies : List StoredBody) → read_bodies tree image ≡ Ok bodies
       → (place : BrokenPlace) → read_batches tree bodies image ≡ Err place → Broken place
-  batches_break tree grown bodies stored place e = ⊎_elim
+  batches_break tree tree_with bodies stored place e = ⊎_elim
       (λ log. damaged coin_file (inr (inr refl)) place log)
       (λ rest. ⊎_elim
       (λ stuck. let s = each_err coin_file at_batch rest.0 place stuck in
@@ -160,13 +167,13 @@ module _ (limit : ℕ) (given : Rules) (image : Image) where
       (λ batches. ⊎_elim
       (λ unknown. let s = passes_err coin_file (λ batch. list_all (is_in tree) (tips_of batch.marker)) batches.0 place unknown in
       let t = each_stood coin_file at_batch rest.0 s.before s.one s.after (batches.1 ∙ ap (λ (l : List (Record Batch)). Ok l) s.is) in
-      subst Broken (sym s.holds.1) (UnknownTip t.0 t.2 s.one.0 t.1 tree s.one.1 (rest.1 ∙ ap (λ (rs : Records). Ok rs) t.3) grown t.6 s.holds.0))
+      subst Broken (sym s.holds.1) (UnknownTip t.0 t.2 s.one.0 t.1 tree s.one.1 (rest.1 ∙ ap (λ (rs : Records). Ok rs) t.3) tree_with t.6 s.holds.0))
       (λ known. ⊎_elim
       (λ unreached. let same = passes_ok coin_file (λ batch. list_all (is_in tree) (tips_of batch.marker)) batches.0 known.0 known.1 in
       let s = last_err tree bodies known.0 place unreached in
       let t = each_stood coin_file at_batch rest.0 s.before s.last [] (batches.1 ∙ ap (λ (l : List (Record Batch)). Ok l) (sym same ∙ s.is)) in
       let none = none_left coin_file at_batch t.2 t.5 in
-      subst Broken (sym s.names) (Unreached t.0 s.last.0 t.1 tree bodies s.last.1 (rest.1 ∙ ap (λ (rs : Records). Ok rs) (t.3 ∙ ap (λ (l : Records). t.0 ++ (s.last.0, t.1) ∷ l) none)) grown stored t.6 s.unreached))
+      subst Broken (sym s.names) (Unreached t.0 s.last.0 t.1 tree bodies s.last.1 (rest.1 ∙ ap (λ (rs : Records). Ok rs) (t.3 ∙ ap (λ (l : Records). t.0 ++ (s.last.0, t.1) ∷ l) none)) tree_with stored t.6 s.unreached))
       (λ reached. absurd cc)
       (err_parts (last_reached tree bodies genesis_hash known.0) _ place known.2))
       (err_parts (each_passes coin_file (λ batch. list_all (is_in tree) (tips_of batch.marker)) batches.0) _ place batches.2))
@@ -242,7 +249,7 @@ pub record Parts (limit : ℕ) (given : Rules) (image : Image) : Type 0 where
   pub lists : List (Record (List Header))
   pub lists_are : each_of header_file headers_of headers ≡ Ok lists
   pub tree : Tree
-  pub grows : tree_after limit (first_tree given) lists ≡ Ok tree
+  pub grows : tree_after limit (first_tree (rules_in given headers)) lists ≡ Ok tree
   pub tree_is : read_tree limit given image ≡ Ok tree
   pub body_records : Records
   pub body_records_are : records_of image body_file ≡ Ok body_records
@@ -318,30 +325,33 @@ module _ (limit : ℕ) (given : Rules) (image : Image) where
   unbroken p place (RefusedHeader before after at payload lists tree headers has says grows reads stops) =
       let m = middle header_file headers_of before after at payload p.headers p.lists (same_ok (records_of image header_file) _ _ p.headers_are has) p.lists_are in
       let first = same_ok (each_of header_file headers_of before) lists m.0 says m.3 in
-      let next = tree_split limit (first_tree given) lists (at, m.1) m.2 tree p.tree grows
-      (ap (tree_after limit (first_tree given)) (ap (λ (l : List (Record (List Header))). l ++ (at, m.1) ∷ m.2) first ∙ sym m.6) ∙ p.grows) in
-      not_some (grown limit tree headers) next.0 (ap (grown limit tree) (some_of (headers_of payload) headers m.1 reads m.4) ∙ next.1) stops
-  unbroken p place (UnknownBody before after at payload tree body has grown reads absent) =
+      let rules : rules_in given p.headers ≡ first_rules =
+      ap (rules_in given) (same_ok (records_of image header_file) _ _ p.headers_are has) ∙ some_stored given before (at, payload) after in
+      let next = tree_split limit (first_tree first_rules) lists (at, m.1) m.2 tree p.tree grows
+      (ap (tree_after limit (first_tree first_rules)) (ap (λ (l : List (Record (List Header))). l ++ (at, m.1) ∷ m.2) first ∙ sym m.6)
+      ∙ subst (λ (r : Rules). tree_after limit (first_tree r) p.lists ≡ Ok p.tree) rules p.grows) in
+      not_some (tree_with limit tree headers) next.0 (ap (tree_with limit tree) (some_of (headers_of payload) headers m.1 reads m.4) ∙ next.1) stops
+  unbroken p place (UnknownBody before after at payload tree body has tree_with reads absent) =
       let m = middle body_file stored_body before after at payload p.body_records p.bodies (same_ok (records_of image body_file) _ _ p.body_records_are has) p.bodies_are in
       let there = passes_each body_file (λ body. is_in p.tree body.hash) m.0 (at, m.1) m.2 p.known (ap (each_passes body_file (λ body. is_in p.tree body.hash)) (sym m.6) ∙ p.known_are) in
-      let same_tree = same_ok (read_tree limit given image) tree p.tree grown p.tree_is in
+      let same_tree = same_ok (read_tree limit given image) tree p.tree tree_with p.tree_is in
       let same_body = some_of (stored_body payload) body m.1 reads m.4 in
       not_true (is_in p.tree m.1.hash) there (ap (λ (t : Tree). is_in t m.1.hash) (sym same_tree) ∙ ap (λ (b : StoredBody). is_in tree b.hash) (sym same_body) ∙ absent)
-  unbroken p place (UnknownTip before after at payload tree batch has grown reads absent) =
+  unbroken p place (UnknownTip before after at payload tree batch has tree_with reads absent) =
       let m = middle coin_file at_batch before after at payload p.coin_records p.batches (same_ok (records_of image coin_file) _ _ p.coin_records_are has) p.batches_are in
       let there = passes_each coin_file (λ batch. list_all (is_in p.tree) (tips_of batch.marker)) m.0 (at, m.1) m.2 p.named
       (ap (each_passes coin_file (λ batch. list_all (is_in p.tree) (tips_of batch.marker))) (sym m.6) ∙ p.named_are) in
-      let same_tree = same_ok (read_tree limit given image) tree p.tree grown p.tree_is in
+      let same_tree = same_ok (read_tree limit given image) tree p.tree tree_with p.tree_is in
       let same_batch = some_of (at_batch payload) batch m.1 reads m.4 in
       not_true (list_all (is_in p.tree) (tips_of m.1.marker)) there
       (ap (λ (t : Tree). list_all (is_in t) (tips_of m.1.marker)) (sym same_tree) ∙ ap (λ (b : Batch). list_all (is_in tree) (tips_of b.marker)) (sym same_batch) ∙ absent)
-  unbroken p place (Unreached before at payload tree bodies batch has grown stored reads absent) =
+  unbroken p place (Unreached before at payload tree bodies batch has tree_with stored reads absent) =
       let m = middle coin_file at_batch before [] at payload p.coin_records p.batches (same_ok (records_of image coin_file) _ _ p.coin_records_are has) p.batches_are in
       let alone = none_said coin_file at_batch m.2 m.5 in
       let same_named = passes_ok coin_file (λ batch. list_all (is_in p.tree) (tips_of batch.marker)) p.batches p.named p.named_are in
       let is : p.named ≡ m.0 ++ (at, m.1) ∷ [] = same_named ∙ m.6 ∙ ap (λ (l : List (Record Batch)). m.0 ++ (at, m.1) ∷ l) alone in
       let there = last_ok p.tree p.stored m.0 (at, m.1) p.reached (ap (last_reached p.tree p.stored genesis_hash) (sym is) ∙ p.reached_are) in
-      let same_tree = same_ok (read_tree limit given image) tree p.tree grown p.tree_is in
+      let same_tree = same_ok (read_tree limit given image) tree p.tree tree_with p.tree_is in
       let same_stored = same_ok (read_bodies tree image) bodies p.stored stored (ap (λ (t : Tree). read_bodies t image) same_tree ∙ p.stored_are) in
       let same_batch = some_of (at_batch payload) batch m.1 reads m.4 in
       not_true (list_all (is_reached p.tree p.stored genesis_hash) (tips_of m.1.marker)) there

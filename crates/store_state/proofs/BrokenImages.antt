@@ -5,13 +5,13 @@ use Rattle.std.proofs.lemmas.List.{length-append, length-take}
 use Rattle.std.proofs.lemmas.Nat.{from_le_bytes-to_le_bytes_4}
 use Rattle.disk_model.specs.Disk.{Image}
 use Rattle.batch_log.specs.Records.{log, records, length_at}
-use Rattle.batch_log.specs.RecordLaws.{log_damaged}
+use Rattle.batch_log.proofs.RecordLaws.{log_damaged}
 use Rattle.base_types.specs.declared.hash.Hash32.{Hash32}
 use Rattle.base_types.specs.declared.program.Rules.{Rules}
 use Rattle.chain_model.specs.HeaderRules.{first_tree}
 use Rattle.coin_store.specs.declared.marker.Marker.TheVariants.{Between}
 use Rattle.coin_store.specs.Batches.{Row, Batch, BatchFits, batch_text}
-use Rattle.coin_store.specs.BatchLaws.{batch_again}
+use Rattle.coin_store.proofs.BatchLaws.{batch_again}
 use Rattle.coin_store.specs.Reading.{batch_of}
 use Rattle.store_state.specs.State.{settled_batch, header_file, body_file, coin_file, first_key, whole_log, records_of, each_of}
 use Rattle.store_state.specs.Breaks.{DamagedLog, NoHeaders, NoBody, NoBatch}

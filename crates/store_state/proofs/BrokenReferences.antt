@@ -11,23 +11,27 @@ use Rattle.base_types.specs.declared.program.Rules.{Rules}
 use Rattle.block_codec.specs.declared.block.Block.{Block}
 use Rattle.block_codec.specs.declared.block.Header.{Header}
 use Rattle.block_store.specs.Bodies.{body_text}
-use Rattle.block_store.specs.PayloadLaws.{hash_again, length-headers}
-use Rattle.chain_model.specs.Tree.{Tree, genesis, genesis_hash, path}
+use Rattle.block_store.proofs.PayloadLaws.{hash_again, length-headers}
+use Rattle.chain_model.specs.Tree.{Tree, path}
+use Rattle.block_codec.specs.Genesis.{genesis, genesis_hash}
 use Rattle.chain_model.specs.Rules.{first_broken}
-use Rattle.chain_model.specs.HeaderRules.{first_tree, header_broken, grown, and_header, and_then}
+use Rattle.chain_model.specs.HeaderRules.{first_tree, header_broken, tree_with, and_header, and_then}
 use Rattle.base_types.specs.declared.refused.HeaderRefused.{HeaderRefused}
 use Rattle.base_types.specs.declared.refused.HeaderRefused.TheVariants.{Known}
 use Rattle.block_codec.specs.Fitting.{HeaderFits}
-use Rattle.block_codec.specs.BlockLaws.{length-header}
+use Rattle.block_codec.proofs.BlockLaws.{length-header}
 use Rattle.block_codec.specs.Text.{hash_of_header}
 use Rattle.block_store.specs.Headers.{headers_text, headers_of}
 use Rattle.coin_store.specs.Batches.{Row, Batch, HashFits, BatchFits}
-use Rattle.coin_store.specs.BatchLaws.{batch_again}
-use Rattle.store_state.specs.State.{Record, there_or_broken, true_or_broken, has_record, is_reached, tree_after, last_reached, StoredBody, stored_body, and_payload, settled_batch, is_in, tips_of, header_file, body_file, coin_file, first_key, records_of, each_of, each_passes}
+use Rattle.coin_store.proofs.BatchLaws.{batch_again}
+use Rattle.store_state.specs.State.{Record, there_or_broken, true_or_broken, has_record, is_reached, tree_after, last_reached, StoredBody, stored_body, and_payload, settled_batch, is_in, tips_of, header_file, body_file, coin_file, first_key, records_of, each_of, each_passes, first_rules}
 use Rattle.store_state.specs.Breaks.{UnknownBody, UnknownTip, RefusedHeader, Unreached}
 use Rattle.store_state.proofs.ReadingSteps.{goes_on, stops, one_record, two_records, one_each, more_each, first_fails, later_fails, one_passes, stops_in_batches, no_headers, no_bodies, stops_in_tree, stops_in_bodies}
 use Rattle.store_state.specs.SmallImages.{HasLogs, IsBrokenAt, place_at, batch_at, payload_at}
-use Rattle.store_state.specs.SmallTrees.{IsChild, get_other, genesis_known, tree_of_one, known_of_one, reaches_one, path_of_one}
+use Rattle.chain_model.specs.SmallTrees.{IsChild, tree_of_one}
+use Rattle.chain_model.proofs.Hashes.{get_other}
+use Rattle.chain_model.proofs.Trees.{genesis_known}
+use Rattle.chain_model.proofs.SmallTrees.{known_of_one, reaches_one, path_of_one}
 use Rattle.store_state.proofs.OneHeader.{reads_tree, one_grown, reads_headers}
 use Rattle.store_state.proofs.BrokenImages.{read_batch}
 
@@ -121,58 +125,58 @@ known_again : (limit : ℕ) (tree : Tree) (header : Header) → get tree.headers
 unfolding header_broken
 known_again limit tree header is = breaks_first (is_some (get tree.headers (hash_of_header header))) Known _ (ap (λ (o : Option Header). is_some o) is)
 
-refused_again : (limit : ℕ) (tree : Tree) (header : Header) → get tree.headers (hash_of_header header) ≡ Some header → grown limit tree (header ∷ []) ≡ None
-unfolding grown
+refused_again : (limit : ℕ) (tree : Tree) (header : Header) → get tree.headers (hash_of_header header) ≡ Some header → tree_with limit tree (header ∷ []) ≡ None
+unfolding tree_with
 refused_again limit tree header is = ap (λ (o : Option HeaderRefused). and_then (and_header o tree header) (λ next. Some next)) (known_again limit tree header is)
 
 headers_long : (header : Header) → HeaderFits header → 5 + length (headers_text (header ∷ [])) ≡ 85
 headers_long header fits = let n = length-headers (header ∷ []) (length-header header fits.prev fits.root, tt) in omega (arith, n)
 
 -- a header that has a record already is refused at the gate of the second
-pub header_twice : (limit : ℕ) (given : Rules) (image : Image) (header : Header) → HeaderFits header → IsChild limit (first_tree given) genesis_hash header
+pub header_twice : (limit : ℕ) (given : Rules) (image : Image) (header : Header) → HeaderFits header → IsChild limit (first_tree first_rules) genesis_hash header
     → log (image header_file) ≡ Ok (headers_text (header ∷ []) ∷ headers_text (header ∷ []) ∷ [])
     → IsBrokenAt limit given image header_file 85
 unfolding tree_after
 header_twice limit given image header fits child is =
     let payload = headers_text (header ∷ []) in
-    let tree = tree_of_one limit given header child in
+    let tree = tree_of_one limit first_rules header child in
     let lists : List (Record (List Header)) = (0, header ∷ []) ∷ [] in
     let both : List (Record (List Header)) = (0, header ∷ []) ∷ (85, header ∷ []) ∷ [] in
     let reads = reads_headers limit given header fits child in
     let records : records_of image header_file ≡ Ok ((0, payload) ∷ (85, payload) ∷ []) =
     two_records image header_file payload payload is ∙ ap (λ (at : ℕ). Ok ((0, payload) ∷ (at, payload) ∷ [])) (headers_long header fits) in
-    let first : tree_after limit (first_tree given) lists ≡ Ok tree = goes_on (there_or_broken header_file 0 (grown limit (first_tree given) (header ∷ []))) _ tree (ap (there_or_broken header_file 0) (one_grown limit given header fits child)) in
-    let refused = refused_again limit tree header (known_of_one limit given header child) in (
+    let first : tree_after limit (first_tree first_rules) lists ≡ Ok tree = goes_on (there_or_broken header_file 0 (tree_with limit (first_tree first_rules) (header ∷ []))) _ tree (ap (there_or_broken header_file 0) (one_grown limit given header fits child)) in
+    let refused = refused_again limit tree header (known_of_one limit first_rules header child) in (
       stops_in_tree limit given image (place_at header_file 85)
           (goes_on (records_of image header_file) _ ((0, payload) ∷ (85, payload) ∷ []) records
           ∙ goes_on (each_of header_file headers_of ((0, payload) ∷ (85, payload) ∷ [])) _ both
           (more_each header_file headers_of 0 payload ((85, payload) ∷ []) (header ∷ []) ((85, header ∷ []) ∷ []) reads (one_each header_file headers_of 85 payload (header ∷ []) reads))
-          ∙ goes_on (there_or_broken header_file 0 (grown limit (first_tree given) (header ∷ []))) _ tree (ap (there_or_broken header_file 0) (one_grown limit given header fits child))
-          ∙ stops (there_or_broken header_file 85 (grown limit tree (header ∷ []))) _ (place_at header_file 85) (ap (there_or_broken header_file 85) refused)),
+          ∙ goes_on (there_or_broken header_file 0 (tree_with limit (first_tree first_rules) (header ∷ []))) _ tree (ap (there_or_broken header_file 0) (one_grown limit given header fits child))
+          ∙ stops (there_or_broken header_file 85 (tree_with limit tree (header ∷ []))) _ (place_at header_file 85) (ap (there_or_broken header_file 85) refused)),
       RefusedHeader ((0, payload) ∷ []) [] 85 payload lists tree (header ∷ []) records (one_each header_file headers_of 0 payload (header ∷ []) reads) first reads refused,
     )
 
 -- ---- a body that isn't there
 
 -- a batch at a header of the tree whose body has no record
-pub unreached_tip : (limit : ℕ) (given : Rules) (image : Image) (header : Header) (rows : List Row) → HeaderFits header → (child : IsChild limit (first_tree given) genesis_hash header)
+pub unreached_tip : (limit : ℕ) (given : Rules) (image : Image) (header : Header) (rows : List Row) → HeaderFits header → (child : IsChild limit (first_tree first_rules) genesis_hash header)
     → BatchFits (batch_at (hash_of_header header) rows)
     → HasLogs image (headers_text (header ∷ []) ∷ []) [] (payload_at (hash_of_header header) rows ∷ [])
     → IsBrokenAt limit given image coin_file 0
 unfolding last_reached
 unreached_tip limit given image header rows fits child batch_fits has =
     let tip = hash_of_header header in
-    let tree = tree_of_one limit given header child in
+    let tree = tree_of_one limit first_rules header child in
     let payload = payload_at tip rows in
     let batch = batch_at tip rows in
-    let known : is_in tree tip ≡ true = ap (λ (o : Option Header). is_some o) (known_of_one limit given header child) in
+    let known : is_in tree tip ≡ true = ap (λ (o : Option Header). is_some o) (known_of_one limit first_rules header child) in
     let records = one_record image coin_file payload has.coins in
     let trees = reads_tree limit given header fits child image has.headers in
     let bodies = no_bodies tree image has.bodies in
     let reads = reads_batch tip rows batch_fits in
     let absent : is_reached tree [] genesis_hash tip ≡ false =
-    ap (λ (b : Bool). b && list_all (has_record []) (path tree.headers genesis_hash tip)) (reaches_one limit given header child)
-    ∙ ap (λ (l : List Hash32). list_all (has_record []) l) (path_of_one limit given header child) in
+    ap (λ (b : Bool). b && list_all (has_record []) (path tree.headers genesis_hash tip)) (reaches_one limit first_rules header child)
+    ∙ ap (λ (l : List Hash32). list_all (has_record []) l) (path_of_one limit first_rules header child) in
     let fails : list_all (is_reached tree [] genesis_hash) (tips_of batch.marker) ≡ false = tip_known (is_reached tree [] genesis_hash) tip false absent in
     let one : List (Record Batch) = (0, batch) ∷ [] in (
       stops_in_batches limit given image tree [] (place_at coin_file 0) trees bodies

@@ -2,8 +2,9 @@ mod Breaking
 mod BrokenImages
 mod BrokenReferences
 mod EachRecord
-mod OneBlock
+pub mod OneBlock
 mod OneHeader
+pub mod OtherRules
 mod ReadingSteps
 mod TwoReplayed
 mod Unsettled

@@ -13,17 +13,18 @@ use Rattle.base_types.specs.declared.hash.Hash32.{Hash32}
 use Rattle.base_types.specs.declared.program.Rules.{Rules}
 use Rattle.block_codec.specs.declared.block.Block.{Block}
 use Rattle.block_codec.specs.declared.block.Header.{Header}
-use Rattle.block_codec.specs.HasText.{text_is}
+use Rattle.block_codec.proofs.HasText.{text_is}
 use Rattle.block_codec.specs.Text.{block_text}
 use Rattle.block_store.specs.Bodies.{body_of}
 use Rattle.block_store.specs.Headers.{headers_text}
-use Rattle.block_store.specs.PayloadLaws.{hash_again, body_again}
+use Rattle.block_store.proofs.PayloadLaws.{hash_again, body_again}
 use Rattle.chain_model.specs.Apply.{replayed}
-use Rattle.chain_model.specs.Choice.{Choice, Bodies, blocks_of, blocks_to, coins_at, is_valid, is_at_or_above, and_block}
-use Rattle.chain_model.specs.Tree.{Tree, genesis_hash, path}
+use Rattle.chain_model.specs.Choice.{Choice, Bodies, blocks_of, blocks_to, coins_at, is_valid, is_at_or_below, and_block}
+use Rattle.chain_model.specs.Tree.{Tree, path}
+use Rattle.block_codec.specs.Genesis.{genesis_hash}
 use Rattle.coin_store.specs.declared.marker.Marker.TheVariants.{At}
 use Rattle.coin_store.specs.Batches.{Batch, BatchFits}
-use Rattle.store_state.specs.State.{Record, StoreState, StoredBody, stored_body, and_payload, with_body, blocks_in, is_in, is_reached, has_record, tips_of, body_file, coin_file, true_or_broken, records_of, each_of, each_passes, last_reached, read_bodies, read_batches, choice_of}
+use Rattle.store_state.specs.State.{Record, StoreState, StoredBody, stored_body, and_payload, with_body, blocks_in, is_in, is_reached, has_record, tips_of, body_file, coin_file, true_or_broken, records_of, each_of, each_passes, last_reached, read_bodies, read_batches, choice_of, first_rules}
 use Rattle.store_state.specs.Settled.{IsBody, IsSettled}
 use Rattle.store_state.proofs.BrokenImages.{read_batch}
 use Rattle.store_state.proofs.BrokenReferences.{knows_tips, knows_body, reads_batch, tip_known}
@@ -31,12 +32,14 @@ use Rattle.store_state.specs.HashLength.{hash_long}
 use Rattle.store_state.proofs.ReadingSteps.{goes_on, one_record, one_each, one_passes, store_is}
 use Rattle.store_state.specs.SmallImages.{HasLogs, StandsSettled, batch_at, payload_at}
 use Rattle.store_state.specs.SmallStores.{FirstBlock, hash_of, tree_of, body_payload, body_stored, store_of_block}
-use Rattle.store_state.specs.SmallTrees.{get_same, same_self, known_of_one, reaches_one, path_of_one}
+use Rattle.chain_model.proofs.Hashes.{get_same, same_self}
+use Rattle.chain_model.proofs.SmallTrees.{known_of_one, reaches_one, path_of_one, apart_of_one}
 use Rattle.store_state.proofs.OneHeader.{reads_tree}
+use Rattle.store_state.specs.Roles.{Alone}
 
 -- the blocks on a path, if they are stored
 pub stored_path : (choice : Choice) (hash : Hash32) (hashes : List Hash32) (blocks : List Block)
-    → is_at_or_above choice.tree.headers choice.start hash ≡ true → path choice.tree.headers choice.start hash ≡ hashes → blocks_of choice.bodies hashes ≡ Some blocks
+    → is_at_or_below choice.tree.headers choice.start hash ≡ true → path choice.tree.headers choice.start hash ≡ hashes → blocks_of choice.bodies hashes ≡ Some blocks
     → blocks_to choice hash ≡ Some blocks
 stored_path choice hash hashes blocks reached is stored =
     ap (λ (b : Bool). cond b (blocks_of choice.bodies (path choice.tree.headers choice.start hash)) None) reached
@@ -50,21 +53,21 @@ last_batch tree bodies start at batch reached =
     let one : List (Record Batch) = (at, batch) ∷ [] in
     ap (λ (b : Bool). true_or_broken coin_file at b one) reached
 
-module _ (limit : ℕ) (given : Rules) (first : FirstBlock limit given) where
+module _ (limit : ℕ) (given : Rules) (first : FirstBlock limit first_rules) where
   abbrev hash : Hash32
-  hash = hash_of limit given first
+  hash = hash_of limit first_rules first
 
   abbrev tree : Tree
-  tree = tree_of limit given first
+  tree = tree_of limit first_rules first
 
   abbrev text : List ℕ
-  text = body_payload limit given first
+  text = body_payload limit first_rules first
 
   abbrev body : StoredBody
-  body = body_stored limit given first
+  body = body_stored limit first_rules first
 
   abbrev store : StoreState
-  store = store_of_block limit given first
+  store = store_of_block limit first_rules first
 
   pub batch_fits : BatchFits (batch_at hash first.rows)
   batch_fits = record { marker = hash_long first.block.header; rows = first.rows_fit }
@@ -76,7 +79,7 @@ module _ (limit : ℕ) (given : Rules) (first : FirstBlock limit given) where
   reads_block = body_again hash first.block (block_text first.block) (hash_long first.block.header) (text_is first.block (block_text first.block) first.fits refl)
 
   known : is_in tree hash ≡ true
-  known = ap (λ (o : Option Header). is_some o) (known_of_one limit given first.block.header first.child)
+  known = ap (λ (o : Option Header). is_some o) (known_of_one limit first_rules first.block.header first.child)
 
   -- the bodies of a file with this body
   pub reads_bodies : (image : Image) → log (image body_file) ≡ Ok (text ∷ []) → read_bodies tree image ≡ Ok (body ∷ [])
@@ -90,8 +93,8 @@ module _ (limit : ℕ) (given : Rules) (first : FirstBlock limit given) where
 
   reached : is_reached tree (body ∷ []) genesis_hash hash ≡ true
   reached =
-      ap (λ (b : Bool). b && list_all (has_record (body ∷ [])) (path tree.headers genesis_hash hash)) (reaches_one limit given first.block.header first.child)
-      ∙ ap (λ (l : List Hash32). list_all (has_record (body ∷ [])) l) (path_of_one limit given first.block.header first.child)
+      ap (λ (b : Bool). b && list_all (has_record (body ∷ [])) (path tree.headers genesis_hash hash)) (reaches_one limit first_rules first.block.header first.child)
+      ∙ ap (λ (l : List Hash32). list_all (has_record (body ∷ [])) l) (path_of_one limit first_rules first.block.header first.child)
       ∙ has_body
 
   -- the batches of a file with one batch at this block
@@ -122,15 +125,15 @@ module _ (limit : ℕ) (given : Rules) (first : FirstBlock limit given) where
   replayed_one = rw first.applies refl
 
   -- the coins of the rows are the replay to the block
-  pub block_replayed : coins_at (choice_of store store.full) hash ≡ Some first.coins
+  pub block_replayed : coins_at (choice_of store store.active) hash ≡ Some first.coins
   block_replayed =
       ap (option_and_then (λ blocks. result_ok (replayed tree empty blocks)))
-      (stored_path (choice_of store store.full) hash (hash ∷ []) (first.block ∷ []) (reaches_one limit given first.block.header first.child) (path_of_one limit given first.block.header first.child) blocks_there)
+      (stored_path (choice_of store store.active) hash (hash ∷ []) (first.block ∷ []) (reaches_one limit first_rules first.block.header first.child) (path_of_one limit first_rules first.block.header first.child) blocks_there)
       ∙ ap result_ok replayed_one
 
   block_settled : IsSettled store
-  block_settled = let Valid : Hash32 → Type 0 = λ tip. is_valid (choice_of store store.full) tip ≡ true in record {
-    bodies = All-cons (IsBody tree) body [] (record { block = first.block; is = reads_block; header = known_of_one limit given first.block.header first.child; meets = first.meets }) (All-nil (IsBody tree));
+  block_settled = let Valid : Hash32 → Type 0 = λ tip. is_valid (choice_of store store.active) tip ≡ true in record {
+    bodies = All-cons (IsBody tree) body [] (record { block = first.block; is = reads_block; header = known_of_one limit first_rules first.block.header first.child; above = apart_of_one limit first_rules first.block.header first.child; meets = first.meets }) (All-nil (IsBody tree));
     distinct = λ i j d low high. absurd (omega arith);
     tips = All-cons Valid hash [] (ap is_some block_replayed) (All-nil Valid);
     rows = block_replayed;
@@ -142,6 +145,6 @@ module _ (limit : ℕ) (given : Rules) (first : FirstBlock limit given) where
     stands_for =
         ap result_ok (store_is limit given image tree (body ∷ []) (batch_at hash first.rows ∷ [])
         (reads_tree limit given first.block.header first.fits.header first.child image has.headers) (reads_bodies image has.bodies) (reads_batches image has.coins))
-        ∙ ap (λ (coins : Coins). Some (record { tree = tree; bodies = body ∷ []; full = record { start = genesis_hash; start_coins = empty; marker = At hash; coins = coins } })) first.rows_give;
+        ∙ ap (λ (coins : Coins). Some (record { tree = tree; bodies = body ∷ []; active = record { start = genesis_hash; start_coins = empty; marker = At hash; coins = coins }; role = Alone })) first.rows_give;
     settled = block_settled;
   }

@@ -5,10 +5,12 @@ use Rattle.disk_model.specs.Disk.{Image}
 use Rattle.batch_log.specs.Records.{log}
 use Rattle.base_types.specs.Views.{BrokenPlace}
 use Rattle.base_types.specs.declared.program.Rules.{Rules}
-use Rattle.chain_model.specs.Tree.{Tree, genesis_hash}
+use Rattle.chain_model.specs.Tree.{Tree}
+use Rattle.block_codec.specs.Genesis.{genesis_hash}
 use Rattle.chain_model.specs.HeaderRules.{first_tree}
 use Rattle.coin_store.specs.Batches.{Batch}
 use Rattle.store_state.specs.State.{Record, Read, ◌>>=◌, StoredBody, there_or_broken, true_or_broken, broken_at, gated, whole_log, records_of, each_of, each_passes, tree_after, last_reached, header_file, body_file, coin_file, read_tree, read_bodies, read_batches, read_store, chainstate_of}
+use Rattle.store_state.specs.Roles.{Alone}
 
 pub goes_on : {A B : Type 0} (r : Read A) (next : A → Read B) (a : A) → r ≡ Ok a → (r >>= next) ≡ next a
 goes_on r next a e = ap (λ (x : Read _). x >>= next) e
@@ -105,7 +107,7 @@ no_batches tree bodies image none = goes_on (records_of image coin_file) _ [] (n
 module _ (limit : ℕ) (given : Rules) (image : Image) where
   pub store_is : (tree : Tree) (bodies : List StoredBody) (batches : List Batch)
       → read_tree limit given image ≡ Ok tree → read_bodies tree image ≡ Ok bodies → read_batches tree bodies image ≡ Ok batches
-      → read_store limit given image ≡ Ok (record { tree = tree; bodies = bodies; full = chainstate_of genesis_hash empty batches })
+      → read_store limit given image ≡ Ok (record { tree = tree; bodies = bodies; active = chainstate_of genesis_hash empty batches; role = Alone })
   store_is tree bodies batches t b c = goes_on (read_tree limit given image) _ tree t ∙ goes_on (read_bodies tree image) _ bodies b ∙ goes_on (read_batches tree bodies image) _ batches c
 
   pub stops_in_tree : (place : BrokenPlace) → read_tree limit given image ≡ Err place → read_store limit given image ≡ Err place

@@ -14,12 +14,14 @@ use Rattle.base_types.specs.declared.refused.CoinRefused.{CoinRefused}
 use Rattle.block_codec.specs.declared.block.Block.{Block}
 use Rattle.block_codec.specs.Text.{same_hash}
 use Rattle.chain_model.specs.Apply.{outcome, replayed}
-use Rattle.chain_model.specs.Choice.{Choice, refused_or, lowest_refused, refused_below, blocks_of, blocks_to, coins_at, is_valid, is_at_or_above, and_block}
+use Rattle.chain_model.specs.Choice.{Choice, refused_or, lowest_refused, refused_below, blocks_of, blocks_to, coins_at, is_valid, is_at_or_below, and_block}
 use Rattle.chain_model.specs.HeaderRules.{first_tree, with_header}
-use Rattle.chain_model.specs.Tree.{Tree, genesis, genesis_hash, chain, chain_within, height, path}
+use Rattle.chain_model.specs.Tree.{Tree, chain, chain_within, height, path}
+use Rattle.block_codec.specs.Genesis.{genesis, genesis_hash}
 use Rattle.store_state.proofs.OneBlock.{stored_path}
 use Rattle.store_state.specs.SmallStores.{TwoBlocks, first_hash, second_hash, tree_of_two, choice_of_two}
-use Rattle.store_state.specs.SmallTrees.{is_new, get_same, get_other, len_new, apart_from, same_self, above, at_genesis, any_third, taken_two, is_past_genesis, past, not_past, apart_of_one, known_of_one, genesis_of_one, two_members}
+use Rattle.chain_model.proofs.SmallTrees.{is_new, above, at_genesis, any_third, taken_two, is_past_genesis, past, not_past, apart_of_one, known_of_one, genesis_of_one, two_members}
+use Rattle.chain_model.proofs.Hashes.{get_same, get_other, len_new, apart_from, same_self}
 
 module _ (limit : ℕ) (given : Rules) (blocks : TwoBlocks limit given) where
   abbrev lower : Hash32
@@ -80,7 +82,7 @@ module _ (limit : ℕ) (given : Rules) (blocks : TwoBlocks limit given) where
   pub second_height : height tree.headers upper ≡ 2
   second_height = ap (λ (l : List Hash32). length l - 1) chain_of_second
 
-  reached : is_at_or_above tree.headers genesis_hash upper ≡ true
+  reached : is_at_or_below tree.headers genesis_hash upper ≡ true
   reached = ap (λ (l : List Hash32). list_any (same_hash genesis_hash) l) chain_of_second ∙ any_third (same_hash genesis_hash) upper lower genesis_hash (same_self genesis_hash)
 
   pub path_of_two : path tree.headers genesis_hash upper ≡ lower ∷ upper ∷ []

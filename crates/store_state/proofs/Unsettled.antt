@@ -8,7 +8,8 @@ use Rattle.base_types.specs.declared.program.Rules.{Rules}
 use Rattle.chain_model.specs.Apply.{replayed}
 use Rattle.chain_model.specs.Choice.{coins_at}
 use Rattle.chain_model.specs.HeaderRules.{first_tree}
-use Rattle.chain_model.specs.Tree.{genesis_hash, first_headers, chain, chain_within}
+use Rattle.block_codec.specs.Genesis.{genesis_hash}
+use Rattle.chain_model.specs.Tree.{first_headers, chain, chain_within}
 use Rattle.coin_store.specs.Batches.{Row, Batch, BatchFits}
 use Rattle.coin_store.specs.Places.{coins_after_rows}
 use Rattle.store_state.specs.State.{Record, StoreState, StoredBody, blocks_in, choice_of, is_in, is_reached, coin_file, records_of, each_of, each_passes, last_reached, read_batches, state_of}
@@ -19,7 +20,9 @@ use Rattle.store_state.proofs.ReadingSteps.{goes_on, one_record, one_each, one_p
 use Rattle.store_state.proofs.OneBlock.{last_batch}
 use Rattle.store_state.specs.SmallImages.{HasLogs, batch_at, payload_at}
 use Rattle.store_state.specs.SmallStores.{store_with_rows}
-use Rattle.store_state.specs.SmallTrees.{same_self, at_genesis, one_member}
+use Rattle.chain_model.proofs.Hashes.{same_self}
+use Rattle.chain_model.proofs.SmallTrees.{at_genesis}
+use Rattle.chain_model.proofs.Trees.{one_member}
 
 -- ---- not settled
 
@@ -53,7 +56,7 @@ rows_at_genesis limit given image rows fits has =
     ∙ goes_on (last_reached (first_tree given) [] genesis_hash one) _ one (last_batch (first_tree given) [] genesis_hash 0 batch (tip_known (is_reached (first_tree given) [] genesis_hash) genesis_hash true (reached given))) in
     ap result_ok (store_is limit given image (first_tree given) [] (batch ∷ []) (no_headers limit given image has.headers) (no_bodies (first_tree given) image has.bodies) reads)
 
-replay : (given : Rules) (rows : List Row) → coins_at (choice_of (store_with_rows given rows) (store_with_rows given rows).full) genesis_hash ≡ Some empty
+replay : (given : Rules) (rows : List Row) → coins_at (choice_of (store_with_rows given rows) (store_with_rows given rows).active) genesis_hash ≡ Some empty
 unfolding blocks_in replayed
 replay given rows = rw (chain_of_genesis, same_self genesis_hash) refl
 

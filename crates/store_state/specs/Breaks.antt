@@ -6,12 +6,13 @@ use Rattle.batch_log.specs.Records.{log}
 use Rattle.base_types.specs.Views.{BrokenPlace}
 use Rattle.base_types.specs.declared.program.Rules.{Rules}
 use Rattle.block_codec.specs.declared.block.Header.{Header}
-use Rattle.chain_model.specs.Tree.{Tree, genesis_hash}
-use Rattle.chain_model.specs.HeaderRules.{first_tree, grown}
+use Rattle.chain_model.specs.Tree.{Tree}
+use Rattle.block_codec.specs.Genesis.{genesis_hash}
+use Rattle.chain_model.specs.HeaderRules.{first_tree, tree_with}
 use Rattle.coin_store.specs.Batches.{Batch}
 use Rattle.coin_store.specs.Reading.{batch_of}
 use Rattle.block_store.specs.Headers.{headers_of}
-use Rattle.store_state.specs.State.{Record, header_file, body_file, coin_file, first_key, StoredBody, stored_body, settled_batch, tips_of, is_in, is_reached, records_of, each_of, tree_after, read_tree, read_bodies, state_of}
+use Rattle.store_state.specs.State.{Record, header_file, body_file, coin_file, first_key, StoredBody, stored_body, settled_batch, tips_of, is_in, is_reached, records_of, each_of, tree_after, read_tree, read_bodies, state_of, first_rules}
 
 -- a log of the image has these records, and then one whose gate has this offset and that payload, and then those
 abbrev pub HasRecord : Image → ℕ → List (Record (List ℕ)) → ℕ → List ℕ → List (Record (List ℕ)) → Type 0
@@ -34,8 +35,8 @@ pub data IsBroken (limit : ℕ) (given : Rules) (image : Image) : BrokenPlace �
   -- a header is refused in the tree of those before it
   RefusedHeader : (before after : Records) (at : ℕ) (payload : List ℕ) (lists : List (Record (List Header))) (tree : Tree) (headers : List Header)
       → HasRecord image header_file before at payload after
-      → each_of header_file headers_of before ≡ Ok lists → tree_after limit (first_tree given) lists ≡ Ok tree
-      → headers_of payload ≡ Some headers → grown limit tree headers ≡ None
+      → each_of header_file headers_of before ≡ Ok lists → tree_after limit (first_tree first_rules) lists ≡ Ok tree
+      → headers_of payload ≡ Some headers → tree_with limit tree headers ≡ None
       → IsBroken limit given image (record { file = header_file; at = at })
   -- a body's hash isn't in the tree
   UnknownBody : (before after : Records) (at : ℕ) (payload : List ℕ) (tree : Tree) (body : StoredBody) → HasRecord image body_file before at payload after

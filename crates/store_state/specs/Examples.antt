@@ -10,7 +10,7 @@ use Rattle.coin_store.specs.Batches.{Batch, Row}
 use Rattle.coin_store.specs.Places.{coins_after_rows}
 use Rattle.coin_store.specs.declared.marker.Marker.TheVariants.{Between}
 use Rattle.store_state.specs.State.{gated, with_body, blocks_in, settled_batch, chainstate_of}
-use Rattle.store_state.specs.SmallTrees.{get_same}
+use Rattle.chain_model.proofs.Hashes.{get_same}
 
 -- ---- logs
 

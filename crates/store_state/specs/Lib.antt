@@ -1,8 +1,9 @@
 pub mod Breaks
 pub mod Examples
+pub mod GivenRules
 pub mod HashLength
+pub mod Roles
 pub mod Settled
 pub mod SmallImages
 pub mod SmallStores
-pub mod SmallTrees
 pub mod State

@@ -4,7 +4,7 @@ use Rattle.std.specs.Prelude.{◌==◌, if◌then◌else◌}
 use Rattle.std.specs.Int.{to_le_bytes, w32}
 use Rattle.disk_model.specs.Disk.{Image}
 use Rattle.batch_log.specs.Records.{log, records, AllFit}
-use Rattle.batch_log.specs.RecordLaws.{log_closed}
+use Rattle.batch_log.proofs.RecordLaws.{log_closed}
 use Rattle.base_types.specs.Views.{BrokenPlace}
 use Rattle.base_types.specs.declared.hash.Hash32.{Hash32}
 use Rattle.base_types.specs.declared.program.Rules.{Rules}

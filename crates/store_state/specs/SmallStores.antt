@@ -14,23 +14,25 @@ use Rattle.chain_model.specs.Apply.{outcome}
 use Rattle.chain_model.specs.BodyRules.{body_broken, place_below}
 use Rattle.chain_model.specs.Choice.{Choice}
 use Rattle.chain_model.specs.HeaderRules.{first_tree, with_header}
-use Rattle.chain_model.specs.Tree.{Tree, genesis_hash}
+use Rattle.chain_model.specs.Tree.{Tree}
+use Rattle.block_codec.specs.Genesis.{genesis_hash}
 use Rattle.coin_store.specs.declared.marker.Marker.TheVariants.{At}
 use Rattle.coin_store.specs.Batches.{Row, RowFits}
 use Rattle.coin_store.specs.Places.{coins_after_rows}
 use Rattle.store_state.specs.State.{StoreState, StoredBody, chainstate_of}
 use Rattle.store_state.specs.SmallImages.{batch_at}
-use Rattle.store_state.specs.SmallTrees.{IsChild}
+use Rattle.chain_model.specs.SmallTrees.{IsChild}
+use Rattle.store_state.specs.Roles.{Alone}
 
 -- ---- no block
 
 -- genesis, with a header above it
 abbrev pub store_of_header : Rules → Header → StoreState
-store_of_header given header = record { tree = with_header (first_tree given) header; bodies = []; full = chainstate_of genesis_hash empty [] }
+store_of_header given header = record { tree = with_header (first_tree given) header; bodies = []; active = chainstate_of genesis_hash empty []; role = Alone }
 
 -- a store at genesis with these rows
 abbrev pub store_with_rows : Rules → List Row → StoreState
-store_with_rows given rows = record { tree = first_tree given; bodies = []; full = chainstate_of genesis_hash empty (batch_at genesis_hash rows ∷ []) }
+store_with_rows given rows = record { tree = first_tree given; bodies = []; active = chainstate_of genesis_hash empty (batch_at genesis_hash rows ∷ []); role = Alone }
 
 -- ---- one block
 
@@ -65,7 +67,8 @@ module _ (limit : ℕ) (given : Rules) (first : FirstBlock limit given) where
   store_of_block = record {
     tree = tree_of;
     bodies = body_stored ∷ [];
-    full = record { start = genesis_hash; start_coins = empty; marker = At hash_of; coins = first.coins };
+    active = record { start = genesis_hash; start_coins = empty; marker = At hash_of; coins = first.coins };
+    role = Alone;
   }
 
 -- ---- two blocks

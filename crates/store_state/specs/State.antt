@@ -11,9 +11,10 @@ use Rattle.base_types.specs.declared.hash.Hash32.{Hash32}
 use Rattle.base_types.specs.declared.program.Rules.{Rules}
 use Rattle.block_codec.specs.declared.block.Header.{Header}
 use Rattle.block_codec.specs.declared.block.Block.{Block}
-use Rattle.chain_model.specs.Tree.{Tree, genesis_hash, path}
-use Rattle.chain_model.specs.HeaderRules.{first_tree, grown}
-use Rattle.chain_model.specs.Choice.{Bodies, Choice, is_at_or_above}
+use Rattle.chain_model.specs.Tree.{Tree, path}
+use Rattle.block_codec.specs.Genesis.{genesis_hash}
+use Rattle.chain_model.specs.HeaderRules.{first_tree, tree_with}
+use Rattle.chain_model.specs.Choice.{Bodies, Choice, is_at_or_below}
 use Rattle.block_codec.specs.Text.{same_hash}
 use Rattle.coin_store.specs.declared.marker.Marker.{Marker}
 use Rattle.coin_store.specs.declared.marker.Marker.TheVariants.{At, Between}
@@ -22,6 +23,7 @@ use Rattle.coin_store.specs.Places.{coins_after}
 use Rattle.coin_store.specs.Reading.{batch_of}
 use Rattle.block_store.specs.Headers.{headers_of}
 use Rattle.block_store.specs.Bodies.{body_hash, body_of}
+use Rattle.store_state.specs.Roles.{Role, Alone}
 
 -- ---- files
 
@@ -91,7 +93,7 @@ each_passes file test (one ∷ others) = true_or_broken file one.0 (test one.1) 
 -- the tree after the headers of each record, unless one is refused
 unfoldable pub tree_after : ℕ → Tree → List (Record (List Header)) → Read Tree
 tree_after limit tree [] = Ok tree
-tree_after limit tree (one ∷ others) = there_or_broken header_file one.0 (grown limit tree one.1) >>= λ next. tree_after limit next others
+tree_after limit tree (one ∷ others) = there_or_broken header_file one.0 (tree_with limit tree one.1) >>= λ next. tree_after limit next others
 
 -- ---- bodies
 
@@ -157,10 +159,12 @@ tip_of chainstate = tip_of_marker chainstate.marker
 
 -- ---- the store
 
+-- the active chainstate, and what it is
 pub record StoreState : Type 0 where
   pub tree : Tree
   pub bodies : List StoredBody
-  pub full : Chainstate
+  pub active : Chainstate
+  pub role : Role Chainstate
 
 -- what a chainstate chooses among
 abbrev pub choice_of : StoreState → Chainstate → Choice
@@ -182,7 +186,7 @@ has_record bodies hash = list_any (λ body. same_hash body.hash hash) bodies
 
 -- a tip is at or above a start, and each block after the start up to it has a body record
 abbrev pub is_reached : Tree → List StoredBody → Hash32 → Hash32 → Bool
-is_reached tree bodies start tip = is_at_or_above tree.headers start tip && list_all (has_record bodies) (path tree.headers start tip)
+is_reached tree bodies start tip = is_at_or_below tree.headers start tip && list_all (has_record bodies) (path tree.headers start tip)
 
 -- the tips of the last batch are reached, if there is one
 unfoldable pub last_reached : Tree → List StoredBody → Hash32 → List (Record Batch) → Read (List (Record Batch))
@@ -193,12 +197,22 @@ last_reached tree bodies start (one ∷ next ∷ others) = last_reached tree bod
 abbrev pub said : {A : Type 0} → List (Record A) → List A
 said records = map (λ one. one.1) records
 
+-- four rules that hold from the first block on
+abbrev pub first_rules : Rules
+first_rules = record { version4 = 1; bip34 = 1; csv = 1; segwit = 1 }
+
+-- the rules of the tree: no store keeps them yet, so they are the first ones wherever a header is stored, and else those that
+-- are given
+abbrev pub rules_in : Rules → List (Record (List ℕ)) → Rules
+rules_in given [] = given
+rules_in given (header ∷ headers) = first_rules
+
 -- the tree of the stored headers
 abbrev pub read_tree : ℕ → Rules → Image → Read Tree
 read_tree limit given image =
     records_of image header_file >>= λ records.
     each_of header_file headers_of records >>= λ lists.
-    tree_after limit (first_tree given) lists
+    tree_after limit (first_tree (rules_in given records)) lists
 
 -- the stored bodies, whose hashes are all in the tree
 abbrev pub read_bodies : Tree → Image → Read (List StoredBody)
@@ -232,7 +246,7 @@ read_store limit given image =
     read_tree limit given image >>= λ tree.
     read_bodies tree image >>= λ bodies.
     read_batches tree bodies image >>= λ batches.
-    Ok (record { tree = tree; bodies = bodies; full = chainstate_of genesis_hash empty batches })
+    Ok (record { tree = tree; bodies = bodies; active = chainstate_of genesis_hash empty batches; role = Alone })
 
 -- what an image stands for; none where something is broken
 abbrev pub state_of : ℕ → Rules → Image → Option StoreState

@@ -11,12 +11,12 @@ ghost use Rattle.block_codec.specs.Text.{hash_of_header};
 ghost use Rattle.block_store.specs.Bodies.{body_text};
 ghost use Rattle.block_store.specs.Headers.{headers_text};
 ghost use Rattle.chain_model.specs.HeaderRules.{first_tree};
-ghost use Rattle.chain_model.specs.Tree.{genesis_hash};
+ghost use Rattle.block_codec.specs.Genesis.{genesis_hash};
 ghost use Rattle.coin_store.specs.Batches.{Row, HashFits, BatchFits, batch_text};
 ghost use Rattle.coin_store.specs.declared.marker.Marker.TheVariants.{Between};
 ghost use Rattle.store_state.specs.SmallImages.{HasLogs, IsBrokenAt, batch_at, payload_at, cut_in_second};
-ghost use Rattle.store_state.specs.SmallTrees.{IsChild};
-ghost use Rattle.store_state.specs.State.{header_file, body_file, coin_file, first_key};
+ghost use Rattle.chain_model.specs.SmallTrees.{IsChild};
+ghost use Rattle.store_state.specs.State.{header_file, body_file, coin_file, first_key, first_rules};
 
 /// An open gate without a whole record behind it is the place of a break: where a file of headers is such a gate and one
 /// byte, and where the second record of a file of coins is cut.
@@ -51,10 +51,10 @@ pub fn broken_references()
     ensures body { (limit : ℕ) (given : Rules) (image : ℕ → List ℕ) (hash : Hash32) (block : Block) → (hash ≡ genesis_hash → ⊥) → HashFits hash
         → log (image header_file) ≡ Ok [] → log (image body_file) ≡ Ok (body_text hash block ∷ [])
         → IsBrokenAt limit given image body_file 0 }
-    ensures header { (limit : ℕ) (given : Rules) (image : ℕ → List ℕ) (header : Header) → HeaderFits header → IsChild limit (first_tree given) genesis_hash header
+    ensures header { (limit : ℕ) (given : Rules) (image : ℕ → List ℕ) (header : Header) → HeaderFits header → IsChild limit (first_tree first_rules) genesis_hash header
         → log (image header_file) ≡ Ok (headers_text (header ∷ []) ∷ headers_text (header ∷ []) ∷ [])
         → IsBrokenAt limit given image header_file 85 }
-    ensures unreached { (limit : ℕ) (given : Rules) (image : ℕ → List ℕ) (header : Header) (rows : List Row) → HeaderFits header → IsChild limit (first_tree given) genesis_hash header
+    ensures unreached { (limit : ℕ) (given : Rules) (image : ℕ → List ℕ) (header : Header) (rows : List Row) → HeaderFits header → IsChild limit (first_tree first_rules) genesis_hash header
         → BatchFits (batch_at (hash_of_header header) rows)
         → HasLogs image (headers_text (header ∷ []) ∷ []) [] (payload_at (hash_of_header header) rows ∷ [])
         → IsBrokenAt limit given image coin_file 0 }

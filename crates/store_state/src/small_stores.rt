@@ -12,32 +12,32 @@ ghost use Rattle.block_store.specs.Headers.{headers_text};
 ghost use Rattle.chain_model.specs.Apply.{outcome};
 ghost use Rattle.chain_model.specs.Choice.{coins_at, refused_below};
 ghost use Rattle.chain_model.specs.HeaderRules.{first_tree};
-ghost use Rattle.chain_model.specs.Tree.{genesis_hash};
+ghost use Rattle.block_codec.specs.Genesis.{genesis_hash};
 ghost use Rattle.coin_store.specs.Batches.{Row, BatchFits};
 ghost use Rattle.coin_store.specs.Places.{coins_after_rows};
 ghost use Rattle.store_state.specs.Settled.{IsSettled};
 ghost use Rattle.store_state.specs.SmallImages.{HasLogs, StandsSettled, batch_at, payload_at};
 ghost use Rattle.store_state.specs.SmallStores.{FirstBlock, hash_of, body_payload, body_stored, store_of_block, store_of_header, store_with_rows, TwoBlocks, tree_of_two, first_hash, second_hash, choice_of_two};
-ghost use Rattle.store_state.specs.SmallTrees.{IsChild};
-ghost use Rattle.store_state.specs.State.{StoreState, StoredBody, blocks_in, state_of};
+ghost use Rattle.chain_model.specs.SmallTrees.{IsChild};
+ghost use Rattle.store_state.specs.State.{StoreState, StoredBody, blocks_in, state_of, first_rules};
 
 /// An image with one header, which is acceptable as a child of genesis, stands for the tree of genesis and this header, at
 /// genesis and without coins, and is settled.
 pub fn one_header_stands()
-    ensures { (limit : ℕ) (given : Rules) (header : Header) → HeaderFits header → IsChild limit (first_tree given) genesis_hash header → (image : ℕ → List ℕ)
+    ensures { (limit : ℕ) (given : Rules) (header : Header) → HeaderFits header → IsChild limit (first_tree first_rules) genesis_hash header → (image : ℕ → List ℕ)
         → HasLogs image (headers_text (header ∷ []) ∷ []) [] []
-        → StandsSettled limit given image (store_of_header given header) }
+        → StandsSettled limit given image (store_of_header first_rules header) }
 {}
 
 /// An image with the header, the body and one batch of a block that can be applied above genesis stands for the tree of
 /// genesis and this block, its body, and a chainstate at it with the coins after it, and is settled. The block is stored
 /// under its hash.
 pub fn one_block_stands()
-    ensures stands { (limit : ℕ) (given : Rules) (first : FirstBlock limit given) (image : ℕ → List ℕ)
-        → HasLogs image (headers_text (first.block.header ∷ []) ∷ []) (body_payload limit given first ∷ []) (payload_at (hash_of limit given first) first.rows ∷ [])
-        → StandsSettled limit given image (store_of_block limit given first) }
-    ensures stored { (limit : ℕ) (given : Rules) (first : FirstBlock limit given)
-        → blocks_in empty (body_stored limit given first ∷ []) ≡ insert empty (hash_of limit given first) first.block }
+    ensures stands { (limit : ℕ) (given : Rules) (first : FirstBlock limit first_rules) (image : ℕ → List ℕ)
+        → HasLogs image (headers_text (first.block.header ∷ []) ∷ []) (body_payload limit first_rules first ∷ []) (payload_at (hash_of limit first_rules first) first.rows ∷ [])
+        → StandsSettled limit given image (store_of_block limit first_rules first) }
+    ensures stored { (limit : ℕ) (first : FirstBlock limit first_rules)
+        → blocks_in empty (body_stored limit first_rules first ∷ []) ≡ insert empty (hash_of limit first_rules first) first.block }
 {}
 
 /// The coins after two blocks are those after the second over those after the first. Where a block breaks a rule, the lowest

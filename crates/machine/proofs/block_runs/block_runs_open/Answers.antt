@@ -5,19 +5,19 @@ use Rattle.machine.proofs.block_runs.block_runs_open.Goals as goal
 pub returns-clause-first : goal.returns-clause-first
 returns-clause-first c =
     let laws : StoreLaws = record { header = c.one_header_stands.ensures; block = c.one_block_stands.ensures.stands; stored = c.one_block_stands.ensures.stored } in
-    λ setting file. begins_empty laws setting file
+    λ limit cache file. begins_empty laws limit cache file
 
 pub returns-clause-runs : goal.returns-clause-runs
 returns-clause-runs c =
     let laws : StoreLaws = record { header = c.one_header_stands.ensures; block = c.one_block_stands.ensures.stands; stored = c.one_block_stands.ensures.stored } in
-    λ setting file n. each_is_run laws setting file n
+    λ limit cache file n. each_is_run laws limit cache file n
 
 pub returns-clause-next : goal.returns-clause-next
 returns-clause-next c =
     let laws : StoreLaws = record { header = c.one_header_stands.ensures; block = c.one_block_stands.ensures.stands; stored = c.one_block_stands.ensures.stored } in
-    λ setting file n. each_goes_on laws setting file n
+    λ limit cache file n. each_goes_on laws limit cache file n
 
 pub returns-clause-second : goal.returns-clause-second
 returns-clause-second c =
     let laws : StoreLaws = record { header = c.one_header_stands.ensures; block = c.one_block_stands.ensures.stands; stored = c.one_block_stands.ensures.stored } in
-    λ setting file. second_opens laws setting file
+    λ limit cache file. second_opens laws limit cache file

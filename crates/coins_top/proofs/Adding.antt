@@ -1,5 +1,5 @@
 -- One more block of a fold.
-use Rattle.std.proofs.Common.{◌≡◌, ◌<◌, ◌≤◌, ◌+◌, ◌-◌, ℕ, suc, Bool, true, false, not, cond, List, [], ◌∷◌, ◌++◌, length, refl, sym, ap, subst, ◌∙◌, arith}
+use Rattle.std.proofs.Common.{◌≡◌, ◌<◌, ◌+◌, ◌-◌, ℕ, suc, Bool, true, false, not, cond, List, [], ◌∷◌, ◌++◌, length, refl, sym, ap, ◌∙◌, arith}
 use Rattle.std.specs.Prelude.{Option, Some, None, Result, Ok, Err, is_some, unwrap_or, slice_get}
 use lib.Pointwise.{bytes_decides}
 use Rattle.std.specs.Ordering.{is_eq}
@@ -7,7 +7,8 @@ use Rattle.std.specs.Cmp.{tied_itself}
 use Rattle.std.specs.FinMap.{get, insert, contains_key, empty, get-insert}
 use Rattle.std.proofs.lemmas.List.{length-append}
 use Rattle.base_types.specs.Coins.{Coins}
-use Rattle.base_types.specs.Keys.{hash_cmp, hash_cmp_total}
+use Rattle.base_types.specs.Keys.{hash_cmp}
+use Rattle.base_types.proofs.KeyOrders.{hash_cmp_total}
 use Rattle.base_types.specs.declared.hash.Hash32.{Hash32}
 use Rattle.base_types.specs.declared.program.Rules.{Rules}
 use Rattle.base_types.specs.declared.refused.HeaderRefused.{HeaderRefused}
@@ -18,15 +19,15 @@ use Rattle.block_codec.specs.declared.block.Header.{Header}
 use Rattle.block_codec.specs.Text.{hash_of_header, same_hash}
 use Rattle.chain_model.specs.Apply.{outcome}
 use Rattle.chain_model.specs.BodyRules.{body_broken, place_below}
-use Rattle.chain_model.specs.Folding.{Folded, FoldRefused, NotNext, BreaksHeader, BreaksBody, BreaksCoins, unless_header, unless_body, on_coins, with_block}
+use Rattle.chain_model.specs.Folding.{Folded, NotNext, BreaksHeader, BreaksBody, BreaksCoins, unless_header, unless_body, on_coins, with_block}
 use Rattle.chain_model.specs.HeaderRules.{header_broken, with_header}
-use Rattle.chain_model.specs.Standing.{Stands}
-use Rattle.chain_model.specs.Tree.{Headers, Tree, genesis, genesis_hash}
-use Rattle.header_tree.specs.State.{State, first_state, after_header}
-use Rattle.coins_top.specs.FoldState.{FoldState, fold_state}
+use Rattle.chain_model.specs.Tree.{Headers}
+use Rattle.block_codec.specs.Genesis.{genesis, genesis_hash}
+use Rattle.header_tree.specs.State.{State, first_state}
+use Rattle.coins_top.specs.FoldState.{fold_state}
 use Rattle.coins_top.specs.Folds.{EndsFold, HeaderEnds, BodyEnds, CoinsEnd}
-use Rattle.coins_top.specs.declared.ending.Ending.{Ending}
-use Rattle.coins_top.specs.declared.ending.Ending.TheVariants.{NoMemory, Replied}
+use Rattle.coins_top.specs.declared.fold_end.FoldEnd.{FoldEnd}
+use Rattle.coins_top.specs.declared.fold_end.FoldEnd.TheVariants.{NoMemory, Replied}
 
 -- ---- a tree with one more header
 
@@ -87,22 +88,22 @@ by_coins limit folded block result same fine sound is =
 abbrev IsChild : Block → Hash32 → Type 0
 IsChild block tip = same_hash block.header.prev tip ≡ true
 
-pub header_exit : (tree new : State) (coins : Coins) (tip : Hash32) (passed : ℕ) (block : Block) (ending : Ending) → IsChild block tip
+pub header_exit : (tree new : State) (coins : Coins) (tip : Hash32) (passed : ℕ) (block : Block) (ending : FoldEnd) → IsChild block tip
     → HeaderEnds tree block.header new (Err ending) → EndsFold (with_block tree.limit (fold_state tree coins tip passed).folded block) ending
 header_exit tree new coins tip passed block NoMemory same ends = tt
 header_exit tree new coins tip passed block (Replied reply) same ends =
     (BreaksHeader (hash_of_header block.header) ends.1.0, by_header tree.limit (fold_state tree coins tip passed).folded block (Some ends.1.0) same ends.1.1, ends.1.2)
 
-pub body_exit : (tree new : State) (coins : Coins) (tip : Hash32) (passed : ℕ) (block : Block) (hash : Hash32) (ending : Ending) → IsChild block tip
-    → HeaderEnds tree block.header new (Ok hash) → BodyEnds {A = Unit {0}} (place_below new.tree block.header.prev) block hash (Err ending)
+pub body_exit : (tree new : State) (coins : Coins) (tip : Hash32) (passed : ℕ) (block : Block) (hash : Hash32) (ending : FoldEnd) → IsChild block tip
+    → HeaderEnds tree block.header new (Ok hash) → BodyEnds {A = Unit {0}} (place_below new.tree block.header.prev) block (Err ending)
     → EndsFold (with_block tree.limit (fold_state tree coins tip passed).folded block) ending
 body_exit tree new coins tip passed block hash NoMemory same header ends = tt
 body_exit tree new coins tip passed block hash (Replied reply) same header ends =
     let broken = sym (ap (λ (s : State). body_broken (place_below s.tree block.header.prev) block) header.2) ∙ ends.1 in
     let refused = by_body tree.limit (fold_state tree coins tip passed).folded block (Some ends.0) same header.0 broken in
-    (BreaksBody hash ends.0, refused ∙ ap (λ (h : Hash32). Err (BreaksBody h ends.0)) (sym header.1), ends.2)
+    (BreaksBody (hash_of_header block.header) ends.0, refused, ends.2)
 
-pub coins_exit : (tree new : State) (coins after : Coins) (tip : Hash32) (passed : ℕ) (block : Block) (hash : Hash32) (ending : Ending) → IsChild block tip
+pub coins_exit : (tree new : State) (coins after : Coins) (tip : Hash32) (passed : ℕ) (block : Block) (hash : Hash32) (ending : FoldEnd) → IsChild block tip
     → HeaderEnds tree block.header new (Ok hash) → body_broken (place_below new.tree block.header.prev) block ≡ None
     → CoinsEnd {A = Unit {0}} (outcome new.tree coins block) (hash_of_header block.header) after (Err ending)
     → EndsFold (with_block tree.limit (fold_state tree coins tip passed).folded block) ending

@@ -1,6 +1,6 @@
 -- Lines that are answered one after another.
-use Rattle.std.proofs.Common.{◌≡◌, ◌<◌, ◌≤◌, ◌+◌, ℕ, Bool, true, false, List, [], ◌∷◌, ◌++◌, length, map, take, drop, refl, sym, ap, subst, ◌∙◌, inl, inr, arith, append_assoc}
-use Rattle.std.specs.Prelude.{◌⊎◌, Option, Some, None, Result, Ok, Err, is_some, option_to_list, sum_by}
+use Rattle.std.proofs.Common.{◌≡◌, ◌≤◌, ◌+◌, ℕ, List, [], ◌∷◌, ◌++◌, map, take, drop, refl, sym, ap, subst, ◌∙◌, arith, append_assoc}
+use Rattle.std.specs.Prelude.{Option, Some, None, is_some}
 use Rattle.std.specs.List.{flat_map}
 use Rattle.std.specs.Io.KnownBytes.{Appends}
 use Rattle.std.proofs.lemmas.List.{append-nil, take-append-drop}
@@ -8,19 +8,19 @@ use Rattle.std.specs.FinMap.{get}
 use Rattle.std.proofs.lemmas.Bool.{false≢true}
 use Rattle.std.proofs.lemmas.List.Sums.{sum_by-append}
 use Rattle.std.proofs.lemmas.Grind.{flat_map-append}
-use Rattle.io_traits.specs.Causes.{Rose, RoseBy, RoseBy-none, RoseBy-once, RoseBy-then}
+use Rattle.io_traits.specs.Causes.{RoseBy}
+use Rattle.io_traits.proofs.Causes.{RoseBy-none, RoseBy-then}
 use Rattle.io_traits.specs.Host.{Held, Files}
-use Rattle.io_traits.specs.Streams.{AppendsPart}
-use Rattle.io_traits.specs.Told.{OnTold, OnTold-same, OnTold-then, OnTold-weaker}
+use Rattle.io_traits.specs.Told.{OnTold}
+use Rattle.io_traits.proofs.Told.{OnTold-same, OnTold-then, OnTold-weaker}
 use Rattle.command_text.specs.Replies.{reply_text}
-use Rattle.command_text.specs.declared.line.Line.TheVariants as line
 use Rattle.command_text.specs.declared.reply.Reply.{Reply}
 use Rattle.machine.specs.State.{Setting}
-use Rattle.machine.specs.Steps.{Now, Did, Step, OthersStay}
+use Rattle.machine.specs.Steps.{Now, Did, Step}
 use Rattle.machine.specs.Courses.{replies_of, text_of, host_faults}
-use Rattle.machine.specs.Answers.{IsPrefix, file_begun, SameBut}
+use Rattle.machine.specs.Answers.{file_begun, SameBut}
 use Rattle.coins_top.specs.Serving.{served, first_now}
-use Rattle.coins_top.specs.Session.{Asked, asked, Outside, outside, ServesAsks, ServesLine, LineServed, Serves, Stopped, Answers, first_begun, onto, pieces_behind, all_but_last, last_of, ended_asks, kept_of}
+use Rattle.coins_top.specs.Session.{Asked, asked, Outside, outside, ServesAsks, ServesLine, Serves, Stopped, first_begun, onto, pieces_behind, all_but_last, last_of, ended_asks, kept_of}
 use Rattle.command_text.specs.Lines.{pieces_between}
 use Rattle.coins_top.proofs.Pieces.{onto-nil, some_pieces, asked-kept_of, all_one, last_one, more_first, more_last}
 

@@ -1,5 +1,5 @@
 -- Lines of bytes that come in parts.
-use Rattle.std.proofs.Common.{◌≡◌, ◌<◌, ◌≤◌, ◌+◌, ◌-◌, ℕ, zero, suc, Bool, true, false, not, cond, List, [], ◌∷◌, ◌++◌, length, map, take, drop, get_or, refl, sym, ap, subst, ◌∙◌, inl, inr, arith, append_assoc, length-append}
+use Rattle.std.proofs.Common.{◌≡◌, ◌<◌, ◌≤◌, ◌+◌, ◌-◌, ℕ, zero, suc, Bool, true, false, not, cond, List, [], ◌∷◌, ◌++◌, length, map, take, drop, get_or, refl, sym, ap, subst, ◌∙◌, inl, inr, arith, length-append}
 use Rattle.std.specs.Prelude.{◌⊎◌, ◌==◌, Result, OnOk, is_ok, if◌then◌else◌, nat_lt, Option, Some, None, is_some, unwrap_or, min, position, Ok, Err}
 use Rattle.std.specs.List.{position_or_len}
 use Rattle.std.proofs.lemmas.Bool.{cases_lt, false≢true}
@@ -8,7 +8,7 @@ use Rattle.std.proofs.lemmas.Bool.Decides.{nat_tests}
 use Rattle.std.proofs.lemmas.List.{length-take-le, append-nil, take_all}
 use Rattle.command_text.specs.Lines.{line_of, command_of, pieces_between, and_byte, without_return}
 use Rattle.command_text.specs.declared.line.LineRefused.TheVariants.{LineTooLong}
-use Rattle.coins_top.specs.Session.{Asked, asked, onto, pieces_behind, all_but_last, last_of, ended_asks, kept_of}
+use Rattle.coins_top.specs.Session.{Asked, asked, onto, all_but_last, last_of, kept_of}
 
 some_none : {A : Type 0} {a : A} → Some a ≡ None → ⊥
 some_none e = false≢true (sym (ap is_some e))

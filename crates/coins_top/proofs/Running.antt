@@ -1,6 +1,6 @@
 -- A run over its input.
-use Rattle.std.proofs.Common.{◌≡◌, ◌<◌, ◌≤◌, ◌+◌, ◌-◌, ℕ, Bool, true, false, List, [], ◌∷◌, ◌++◌, length, map, take, refl, sym, ap, subst, ◌∙◌, arith, append_assoc, length-append}
-use Rattle.std.specs.Prelude.{◌≢◌, Option, Some, None, Result, Ok, Err, IfSome}
+use Rattle.std.proofs.Common.{◌≡◌, ◌<◌, ◌≤◌, ◌+◌, ℕ, Bool, true, false, List, [], ◌∷◌, ◌++◌, length, map, refl, sym, ap, subst, ◌∙◌, arith, length-append}
+use Rattle.std.specs.Prelude.{Option, Some, None, Result, Ok, Err, IfSome}
 use Rattle.std.specs.Io.KnownBytes.{Consumes, Keeps, IsAtEnd}
 use Rattle.std.proofs.lemmas.Bool.{false≢true}
 use Rattle.std.proofs.lemmas.List.{append-nil, map-append, length-map}
@@ -8,18 +8,18 @@ use Rattle.base_types.specs.declared.program.Status.{Status}
 use Rattle.base_types.specs.declared.program.Status.TheVariants.{Done, InFault, NoMemory, OutFault, TooLong}
 use Rattle.coins_top.specs.declared.stop.Stop.{Stop}
 use Rattle.coins_top.specs.declared.stop.Stop.TheVariants as stop
-use Rattle.io_traits.specs.Causes.{RoseBy, RoseBy-then, RoseBy-none}
-use Rattle.io_traits.specs.Host.{Held, Files}
-use Rattle.io_traits.specs.Streams.{Consumes-nothing, Consumes-kept, Consumes-then, Consumes-told}
-use Rattle.io_traits.specs.Told.{OnTold, OnTold-same, OnTold-then, OnTold-weaker}
+use Rattle.io_traits.specs.Host.{Held}
+use Rattle.io_traits.proofs.Streams.{Consumes-nothing, Consumes-kept, Consumes-then, Consumes-told}
+use Rattle.io_traits.specs.Told.{OnTold}
+use Rattle.io_traits.proofs.Told.{OnTold-same}
 use Rattle.command_text.specs.Lines.{line_of, pieces_between, without_return}
 use Rattle.machine.specs.State.{Setting}
-use Rattle.machine.specs.Courses.{lines_in, ended_in, text_of, host_faults}
+use Rattle.machine.specs.Courses.{lines_in, ended_in, text_of}
 use Rattle.machine.specs.Answers.{stops_on_input}
 use Rattle.coins_top.specs.Run.{Takes, AnswersInput, status_of_end}
 use Rattle.coins_top.specs.Session.{Asked, asked, Outside, outside, setting_of, Serves, Stopped, Answers, first_begun, onto, pieces_behind, all_but_last, last_of, ended_asks, kept_of}
 use Rattle.coins_top.proofs.AnsweredLines.{Serves-none, told_serves, told_stopped, told_longer, same_but}
-use Rattle.coins_top.proofs.Pieces.{onto-nil, some_pieces, pieces-append, pieces-nil, all_and_last, all_but_last-append, last_of-append, length-onto, ended-kept, last-kept, asked-kept_of, all_one, last_one}
+use Rattle.coins_top.proofs.Pieces.{some_pieces, pieces-append, pieces-nil, all_and_last, all_but_last-append, last_of-append, length-onto, ended-kept, last-kept, asked-kept_of, all_one, last_one}
 use Rattle.coins_top.proofs.Ways.{asked_lines, served_from}
 
 -- ---- bytes behind others
@@ -115,7 +115,7 @@ Begins a held before = a ≡ Some (record { files = held.files; written = before
 pub answers_served : (result : Status) (headers : ℕ) (bytes before taken : List ℕ) (held : Held) (left written : Option (List ℕ)) (hosted : Option Held) (from now : ℕ) (a : Option Outside) (front back : List Asked)
     → Begins a held before → Takes result bytes taken left → map line_of (lines_in taken) ≡ front ++ back → OnTold a (outside hosted written) (Serves (setting_of headers) front from now)
     → (result ≡ Done → back ≡ []) → (stops_on_input result ≡ true → length front ≡ ended_in taken)
-    → AnswersInput result headers bytes before held left written hosted from now
+    → AnswersInput headers result (record { input = bytes; written = before; held = held; faults = from }) (record { input = left; written = written; held = hosted; faults = now })
 answers_served result headers bytes before taken held left written hosted from now a front back begins takes split told done stops =
     let s : Outside = record { files = held.files; written = before } in
     let end = told_end hosted written (Serves (setting_of headers) front from now) s (subst (λ (o : Option Outside). OnTold o (outside hosted written) (Serves (setting_of headers) front from now)) begins told) in
@@ -135,7 +135,7 @@ answers_served result headers bytes before taken held left written hosted from n
 pub answers_stopped : (result : Status) (headers : ℕ) (bytes before taken : List ℕ) (held : Held) (left written : Option (List ℕ)) (hosted : Option Held) (from now : ℕ) (a : Option Outside) (asks rest : List Asked)
     → Begins a held before → Takes result bytes taken left → map line_of (lines_in taken) ≡ asks ++ rest → OnTold a (outside hosted written) (Stopped (setting_of headers) asks from now)
     → (result ≡ Done → ⊥) → (stops_on_input result ≡ true → ⊥)
-    → AnswersInput result headers bytes before held left written hosted from now
+    → AnswersInput headers result (record { input = bytes; written = before; held = held; faults = from }) (record { input = left; written = written; held = hosted; faults = now })
 answers_stopped result headers bytes before taken held left written hosted from now a asks rest begins takes split told not_done goes_on =
     let s : Outside = record { files = held.files; written = before } in
     let end = told_end hosted written (Stopped (setting_of headers) (asks ++ rest) from now) s
@@ -218,7 +218,7 @@ begins hosted written held before one two = ap (λ (h : Option Held). outside h 
 -- nothing more was taken
 pub exit_kept : (result : Status) (headers : ℕ) (bytes before : List ℕ) (held : Held) (line : List ℕ) (number from now : ℕ) (a : Option Outside) (hosted : Option Held) (written first left : Option (List ℕ))
     → Begins a held before → first ≡ Some bytes → IsRead (setting_of headers) line number from now a (outside hosted written) first left → number ≤ 16777216 → (result ≡ Done → ⊥) → (result ≡ TooLong → ⊥)
-    → AnswersInput result headers bytes before held left written hosted from now
+    → AnswersInput headers result (record { input = bytes; written = before; held = held; faults = from }) (record { input = left; written = written; held = hosted; faults = now })
 exit_kept result headers bytes before held line number from now a hosted written first left begun is read within not_done not_long =
     let taken = read.taken in
     let few : length taken ≤ 16777216 = let n = read.count in omega (arith, n, within) in
@@ -236,7 +236,7 @@ IsRead-nothing setting line number from now a b first middle left read nothing =
 -- the input has too many bytes
 pub exit_long : (headers : ℕ) (bytes before : List ℕ) (held : Held) (line beyond : List ℕ) (number from now : ℕ) (a : Option Outside) (hosted : Option Held) (written first middle left : Option (List ℕ))
     → Begins a held before → first ≡ Some bytes → IsRead (setting_of headers) line number from now a (outside hosted written) first middle → number ≡ 16777216 → Consumes middle left beyond → length beyond ≡ 1
-    → AnswersInput TooLong headers bytes before held left written hosted from now
+    → AnswersInput headers TooLong (record { input = bytes; written = before; held = held; faults = from }) (record { input = left; written = written; held = hosted; faults = now })
 exit_long headers bytes before held line beyond number from now a hosted written first middle left begun is read most more one =
     let taken = read.taken in
     answers_served TooLong headers bytes before taken held left written hosted from now a (map asked (all_but_last (pieces_between 10 taken))) (asked (last_in taken) ∷ []) begun
@@ -253,7 +253,7 @@ whole_asks taken ask is =
 -- the input has ended, and the last line was answered, or the run stopped in it
 pub exit_last : (A : Type 0) (result : Result A Stop) (headers : ℕ) (bytes before : List ℕ) (held : Held) (line : List ℕ) (ask : Asked) (number from middle now : ℕ) (a b : Option Outside) (hosted : Option Held) (written first left : Option (List ℕ))
     → Begins a held before → first ≡ Some bytes → IsRead (setting_of headers) line number from middle a b first left → number ≤ 16777216 → ask ≡ asked line
-    → OnTold b (outside hosted written) (Answers (setting_of headers) (ask ∷ []) middle now result) → AnswersInput (status_of_end result) headers bytes before held left written hosted from now
+    → OnTold b (outside hosted written) (Answers (setting_of headers) (ask ∷ []) middle now result) → AnswersInput headers (status_of_end result) (record { input = bytes; written = before; held = held; faults = from }) (record { input = left; written = written; held = hosted; faults = now })
 exit_last A (Ok done) headers bytes before held line ask number from middle now a b hosted written first left begun is read within same told =
     let taken = read.taken in
     let few : length taken ≤ 16777216 = let n = read.count in omega (arith, n, within) in
@@ -279,7 +279,7 @@ exit_last A (Err stop.OutFault) headers bytes before held line ask number from m
 -- the run stopped among the lines that ended in some bytes
 pub exit_among : (why : Stop) (headers : ℕ) (bytes before : List ℕ) (held : Held) (line piece : List ℕ) (number more from middle now : ℕ) (a b : Option Outside) (hosted : Option Held) (written first between left : Option (List ℕ))
     → Begins a held before → first ≡ Some bytes → IsRead (setting_of headers) line number from middle a b first between → Consumes between left piece → length piece ≡ more → number + more ≤ 16777216
-    → OnTold b (outside hosted written) (Stopped (setting_of headers) (ended_asks line piece) middle now) → AnswersInput (status_of_end {A = Unit {0}} (Err why)) headers bytes before held left written hosted from now
+    → OnTold b (outside hosted written) (Stopped (setting_of headers) (ended_asks line piece) middle now) → AnswersInput headers (status_of_end {A = Unit {0}} (Err why)) (record { input = bytes; written = before; held = held; faults = from }) (record { input = left; written = written; held = hosted; faults = now })
 exit_among why headers bytes before held line piece number more from middle now a b hosted written first between left begun is read consumes len within told =
     let taken = read.taken ++ piece in
     let few : length taken ≤ 16777216 = let n = read.count in let sum = length-append read.taken piece in omega (arith, n, len, sum, within) in

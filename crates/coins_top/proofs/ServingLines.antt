@@ -1,16 +1,17 @@
 -- What one line does.
-use Rattle.std.proofs.Common.{◌≡◌, ◌<◌, ◌≤◌, ◌+◌, ◌^◌, ℕ, Bool, true, false, cond, List, [], ◌∷◌, refl, sym, ap, subst, ◌∙◌, inl, inr, arith}
-use Rattle.std.specs.Prelude.{◌&&◌, ◌⊎◌, Option, Some, None, Result, Ok, Err, IsOk, IsErr, nat_le, option_to_list, not, ◌==◌, length, nat_lt, reverse, codes, if◌then◌else◌}
+use Rattle.std.proofs.Common.{◌≡◌, ◌≤◌, ℕ, Bool, true, false, cond, List, [], ◌∷◌, refl, sym, ap, subst, ◌∙◌, inl, inr, arith}
+use Rattle.std.specs.Prelude.{◌&&◌, Option, Some, None, Result, Ok, Err, IsOk, IsErr, nat_le, option_to_list, not, ◌==◌, length, nat_lt, reverse, codes, if◌then◌else◌}
 use Rattle.std.specs.List.{list_all}
 use Rattle.std.specs.Char.{is_ascii_digit}
 use Rattle.std.specs.FinMap.{get, insert}
 use Rattle.std.proofs.lemmas.Bool.{false≢true}
 use Rattle.std.proofs.lemmas.Bool.Decides.{nat_tests}
 use Rattle.std.specs.Str.Parse.{digits_value}
-use Rattle.base_types.specs.declared.program.Rules.{Rules}
-use Rattle.io_traits.specs.Causes.{Rose, RoseBy, RoseBy-none, RoseBy-once}
+use Rattle.io_traits.specs.Causes.{Rose, RoseBy}
+use Rattle.io_traits.proofs.Causes.{RoseBy-none, RoseBy-once}
 use Rattle.io_traits.specs.Host.{Held, Files}
-use Rattle.io_traits.specs.Told.{OnTold, OnTold-same, OnTold-weaker}
+use Rattle.io_traits.specs.Told.{OnTold}
+use Rattle.io_traits.proofs.Told.{OnTold-same, OnTold-weaker}
 use Rattle.command_text.specs.Lines.{◌>>=◌, line_of, command_of, alone, with_one, with_two, with_three, is_word, name_of, key_of, txid_of, index_of, seed_of, count_of, pieces_between}
 use Rattle.command_text.specs.declared.line.Line.{Line}
 use Rattle.command_text.specs.declared.line.Line.TheVariants as line
@@ -19,14 +20,14 @@ use Rattle.command_text.specs.declared.line.LineRefused.TheVariants.{UnknownComm
 use Rattle.command_text.specs.declared.reply.Reply.{Reply}
 use Rattle.command_text.specs.declared.reply.Reply.TheVariants as says
 use Rattle.chain_model.specs.Generated.{chain as generated_chain, tip_of, file_text}
-use Rattle.chain_gen.specs.Chains.{blocks_of}
+use Rattle.chain_model.specs.Generated.{blocks_of}
 use Rattle.base_types.specs.declared.hash.Hash32.{Hash32}
 use Rattle.io_traits.specs.Host.{ChangesOnly}
 use Rattle.io_traits.specs.HostRuns.{IsDone}
 use Rattle.machine.specs.State.{Setting, still}
-use Rattle.machine.specs.Steps.{Now, Did, Step, WithBytes, Folds, OthersStay, Generation, generated_reply, generated_bytes, answered, faulted}
+use Rattle.machine.specs.Steps.{Did, Step, WithBytes, Folds, OthersStay, Generation, generated_reply, generated_bytes, answered, faulted}
 use Rattle.coins_top.specs.Serving.{served, first_now}
-use Rattle.coins_top.specs.Session.{Asked, IsCounted, setting_of, ServesLine, LineServed, WritesIs, LineWritten, reply_to}
+use Rattle.coins_top.specs.Session.{Asked, IsCounted, setting_of, ServesLine, LineServed, WritesIs, reply_to}
 use Rattle.coins_top.proofs.AnsweredLines.{same_but}
 use Rattle.machine.specs.Answers.{SameBut, file_begun}
 use Rattle.command_text.specs.Parsed.{Parses}

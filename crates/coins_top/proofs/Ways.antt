@@ -4,7 +4,7 @@ use Rattle.std.specs.Prelude.{◌⊎◌, Option, Some, None, Result, Ok, Err, un
 use Rattle.std.specs.List.{flat_map}
 use Rattle.std.specs.FinMap.{get, insert}
 use Rattle.std.proofs.lemmas.Bool.{cases_lt, false≢true}
-use Rattle.std.proofs.lemmas.List.{append-nil, take_all}
+use Rattle.std.proofs.lemmas.List.{append-nil}
 use Rattle.std.proofs.lemmas.List.Sums.{sum_by-cons}
 use Rattle.std.proofs.Math.Seq.{take-append-add}
 use Rattle.base_types.specs.declared.program.Status.{Status}
@@ -13,7 +13,7 @@ use Rattle.block_codec.specs.Frames.{frames}
 use Rattle.chain_model.specs.Folding.{Folded, FoldRefused, fold_of}
 use Rattle.io_traits.specs.Causes.{RoseBy}
 use Rattle.io_traits.specs.Host.{Files}
-use Rattle.command_text.specs.Lines.{line_of, pieces_between, without_return}
+use Rattle.command_text.specs.Lines.{line_of, without_return}
 use Rattle.command_text.specs.Replies.{reply_text, words_of}
 use Rattle.command_text.specs.declared.line.Line.TheVariants as line
 use Rattle.command_text.specs.declared.line.LineRefused.TheVariants.{UnknownCommand}
@@ -21,10 +21,10 @@ use Rattle.command_text.specs.declared.reply.Reply.{Reply}
 use Rattle.command_text.specs.declared.reply.Reply.TheVariants as says
 use Rattle.chain_model.specs.Generated.{chain as generated_chain}
 use Rattle.machine.specs.State.{Setting}
-use Rattle.machine.specs.Steps.{Now, Did, Step, WithBytes, Folds, IsFoldReply, folded_reply, refusal_of, longest_file, generated_reply, generated_bytes, answered, faulted}
+use Rattle.machine.specs.Steps.{Now, Did, Step, WithBytes, Folds, IsFoldReply, folded_reply, refusal_of, longest_file, generated_reply, generated_bytes, answered}
 use Rattle.machine.specs.Courses.{lines_in, ended_in, replies_of, text_of, host_faults}
-use Rattle.machine.specs.Answers.{IsPrefix, file_begun, SameBut, after_some, next_begun, FilesAfter, stops_on_input}
-use Rattle.coins_top.specs.Serving.{served, first_now, ServesAll, Service, Served}
+use Rattle.machine.specs.Answers.{IsPrefix, file_begun, SameBut, after_some, next_begun, stops_on_input}
+use Rattle.coins_top.specs.Serving.{served, first_now, ServesAll, Served}
 use Rattle.coins_top.specs.Session.{Asked, asked, ServesAsks, first_begun}
 use Rattle.coins_top.proofs.AnsweredLines.{text_of-append, host_faults-append, ServesAsks-then, same_but}
 

@@ -1,5 +1,5 @@
 -- What a fold has come to, and how many headers its tree may have.
-use Rattle.std.specs.Prelude.{ℕ, ◌+◌, ◌-◌, List, length, refl}
+use Rattle.std.specs.Prelude.{ℕ, ◌+◌, ◌-◌, length, refl}
 use Rattle.std.specs.Coded.{Coded, code_by, coded×, coded_ℕ}
 use Rattle.base_types.specs.Coins.{Coins}
 use Rattle.base_types.specs.declared.hash.Hash32.{Hash32}

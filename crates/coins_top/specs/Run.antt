@@ -1,5 +1,5 @@
 -- How a run ends, and what it has then read and written.
-use Rattle.std.specs.Prelude.{◌≡◌, ◌≢◌, ◌≤◌, ℕ, List, [], ◌++◌, length, Option, Some, Result, Ok, Err, ⊤}
+use Rattle.std.specs.Prelude.{◌≡◌, ◌≢◌, ◌≤◌, ℕ, List, [], ◌++◌, length, Option, Some, Result, Ok, Err}
 use Rattle.base_types.specs.declared.program.Status.{Status}
 use Rattle.base_types.specs.declared.program.Status.TheVariants.{Done, DiskFault, HostFault, InFault, OutFault, NoMemory, Damaged, Usage, TooLong, Full, BadCommitments, CacheFull}
 use Rattle.io_traits.specs.Host.{Held}
@@ -25,18 +25,7 @@ IsOfRun CacheFull = ⊥
 
 -- those that the input may end with
 abbrev pub IsOfInput : Status → Type 0
-IsOfInput Done = Unit {0}
-IsOfInput DiskFault = ⊥
-IsOfInput HostFault = ⊥
-IsOfInput InFault = Unit {0}
-IsOfInput OutFault = Unit {0}
-IsOfInput NoMemory = Unit {0}
-IsOfInput (Damaged file at) = ⊥
-IsOfInput Usage = ⊥
-IsOfInput TooLong = Unit {0}
-IsOfInput (Full file) = ⊥
-IsOfInput BadCommitments = ⊥
-IsOfInput CacheFull = ⊥
+IsOfInput status = IsOfRun status × (status ≢ Usage)
 
 -- the status where answering lines ended so
 abbrev pub status_of_end : {A : Type 0} → Result A Stop → Status
@@ -55,12 +44,27 @@ pub record Takes (result : Status) (bytes taken : List ℕ) (now_left : Option (
   pub one : result ≡ TooLong → (length taken ≡ 16777216) × (length beyond ≡ 1)
   pub none : result ≢ TooLong → beyond ≡ []
 
+-- an outside that tells all of itself, before a run: the bytes of the input, those written, what the host holds, and how
+-- often it has failed
+pub record RunStart : Type 0 where
+  pub input : List ℕ
+  pub written : List ℕ
+  pub held : Held
+  pub faults : ℕ
+
+-- what is told after it: the bytes that are left of the input, and the rest likewise
+pub record RunEnd : Type 0 where
+  pub input : Option (List ℕ)
+  pub written : Option (List ℕ)
+  pub held : Option Held
+  pub faults : ℕ
+
 -- the lines that were taken are answered
-pub record AnswersInput (result : Status) (headers : ℕ) (bytes before : List ℕ) (held : Held) (left output : Option (List ℕ)) (host : Option Held) (faults_before faults_after : ℕ) : Type 0 where
+pub record AnswersInput (headers : ℕ) (result : Status) (start : RunStart) (end : RunEnd) : Type 0 where
   pub taken : List ℕ
-  pub takes : Takes result bytes taken left
+  pub takes : Takes result start.input taken end.input
   pub wrote : List ℕ
-  pub written : output ≡ Some (before ++ wrote)
+  pub written : end.written ≡ Some (start.written ++ wrote)
   pub after : Held
-  pub told : host ≡ Some after
-  pub served : Served result taken wrote (setting_of headers) held.files after.files faults_before faults_after
+  pub told : end.held ≡ Some after
+  pub served : Served result taken wrote (setting_of headers) start.held.files after.files start.faults end.faults

@@ -1,19 +1,16 @@
 -- What a run answers while there is no store: the lines that need none are served, and the others are unknown.
 use Rattle.std.specs.Prelude.{◌≡◌, ℕ, true, List, [], ◌∷◌, take, Result, Ok, Err}
-use Rattle.std.specs.FinMap.{empty}
-use Rattle.base_types.specs.declared.program.Rules.{Rules}
 use Rattle.base_types.specs.declared.program.Status.{Status}
 use Rattle.base_types.specs.declared.program.Status.TheVariants as status
 use Rattle.io_traits.specs.Causes.{RoseBy}
 use Rattle.io_traits.specs.Host.{Files}
-use Rattle.chain_model.specs.Tree.{genesis_hash}
-use Rattle.chain_model.specs.HeaderRules.{first_tree}
 use Rattle.command_text.specs.Lines.{line_of}
 use Rattle.command_text.specs.declared.line.Line.{Line}
 use Rattle.command_text.specs.declared.line.Line.TheVariants as line
 use Rattle.command_text.specs.declared.line.LineRefused.{LineRefused}
 use Rattle.command_text.specs.declared.line.LineRefused.TheVariants.{UnknownCommand}
-use Rattle.machine.specs.State.{Setting, State}
+use Rattle.machine.specs.SmallStates.{at_start}
+use Rattle.machine.specs.State.{Setting}
 use Rattle.machine.specs.Steps.{Now, Did, Step}
 use Rattle.machine.specs.Courses.{lines_in, ended_in, text_of, host_faults}
 use Rattle.machine.specs.Answers.{IsPrefix, FilesAfter, stops_on_input}
@@ -29,16 +26,9 @@ abbrev pub served : Result Line LineRefused → Result Line LineRefused
 served (Ok line) = served_line line
 served (Err why) = Err why
 
--- a store of genesis alone
-abbrev pub no_store : Rules → State
-no_store given = record {
-  tree = first_tree given;
-  bodies = empty;
-  full = record { start = genesis_hash; start_coins = empty; tip = genesis_hash; kept = genesis_hash; refused = []; touched = [] };
-}
-
+-- files of the host, beside a store of genesis alone
 abbrev pub first_now : Setting → Files → Now
-first_now setting files = record { state = no_store setting.given; files = files }
+first_now setting files = at_start setting.given files
 
 -- these lines may be served so, one after the other
 abbrev pub ServesAll : Setting → Now → List (List ℕ) → List Did → Now → Type 0

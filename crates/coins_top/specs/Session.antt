@@ -1,5 +1,5 @@
 -- Lines that are answered one after another, over an outside that tells what it holds.
-use Rattle.std.specs.Prelude.{◌≡◌, ◌⊎◌, ◌≤◌, ℕ, List, [], ◌∷◌, ◌++◌, length, map, take, Option, Some, None, Result, Ok, Err, option_to_list, alloc_error}
+use Rattle.std.specs.Prelude.{◌≡◌, ◌⊎◌, ◌≤◌, ℕ, List, [], ◌∷◌, ◌++◌, map, take, Option, Some, None, Result, Ok, Err, option_to_list, alloc_error}
 use Rattle.std.specs.FinMap.{insert}
 use Rattle.io_traits.specs.Causes.{Rose, RoseBy}
 use Rattle.io_traits.specs.Host.{Held, Files}

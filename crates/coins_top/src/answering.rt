@@ -1,6 +1,6 @@
 //! Lines and their replies.
 
-ghost use Rattle.std.specs.Prelude.{◌≡◌, ◌<◌, ◌≤◌, ◌∷◌, [], ◌==◌, length, position, Err, OnOk, MatchOption};
+ghost use Rattle.std.specs.Prelude.{◌≡◌, ◌≢◌, ◌<◌, ◌≤◌, ◌∷◌, [], ◌==◌, length, position, Err, OnOk, MatchOption};
 ghost use Rattle.io_traits.specs.Causes.{Rose};
 ghost use Rattle.io_traits.specs.Told.{OnTold};
 ghost use Rattle.command_text.specs.Lines.{line_of, pieces_between};
@@ -26,6 +26,7 @@ pub(crate) fn answer<H: Host, O: Sink>(
     ensures later { H.faults host.old ≤ H.faults host.new }
     ensures written { O.faults out.old ≤ O.faults out.new }
     ensures cause { result ≡ Err OutFault → Rose (O.faults out.old) (O.faults out.new) }
+    ensures steady { result ≢ Err OutFault → O.faults out.new ≡ O.faults out.old }
     ensures told { OnTold (outside (H.held host.old) (O.written out.old)) (outside (H.held host.new) (O.written out.new)) (Answers (setting_of limits.now.headers) (line_of text.now ∷ []) (H.faults host.old) (H.faults host.new) result) }
 {
     let Some(reply) = serve(alloc, host, limits, text)? else {
@@ -51,6 +52,7 @@ pub(crate) fn answer_lines<H: Host, O: Sink>(
     ensures later { H.faults host.old ≤ H.faults host.new }
     ensures written { O.faults out.old ≤ O.faults out.new }
     ensures cause { result ≡ Err OutFault → Rose (O.faults out.old) (O.faults out.new) }
+    ensures steady { result ≢ Err OutFault → O.faults out.new ≡ O.faults out.old }
     ensures told { OnTold (outside (H.held host.old) (O.written out.old)) (outside (H.held host.new) (O.written out.new)) (Answers (setting_of limits.now.headers) (ended_asks line.old bytes.now) (H.faults host.old) (H.faults host.new) result) }
     ensures kept { OnOk result (line.new ≡ kept_of (last_of (pieces_behind line.old bytes.now))) }
 {

@@ -1,14 +1,16 @@
 //! Folding a block file of the host.
 
-ghost use Rattle.std.specs.Prelude.{◌≡◌, ◌+◌, ◌<◌, ◌≤◌, IfOk, IfSome};
+ghost use Rattle.std.specs.Prelude.{◌≡◌, ◌≢◌, ◌+◌, ◌<◌, ◌≤◌, Ok, Err, IfOk, IfSome};
+ghost use Rattle.command_text.specs.declared.reply.Reply.TheVariants as says;
+ghost use Rattle.coins_top.specs.declared.fold_end.FoldEnd.TheVariants.{Replied};
 ghost use Rattle.io_traits.specs.Told.{OnTold};
-ghost use Rattle.frame_scan.specs.Scan.{taken, longest};
+ghost use Rattle.frame_scan.specs.Scan.{bytes_taken, max_file_bytes};
 ghost use Rattle.coins_top.specs.FileFolds.{NextBlock, FoldsRest, FoldsInput, FoldsFile};
 
-use crate::ending::Ending;
+use crate::fold_end::FoldEnd;
 use crate::folding::Folding;
 use base_types::{Limits, Rules};
-use block_codec::Block;
+use block_codec::HashedBlock;
 use command_text::Reply;
 use frame_scan::{FrameFault, Frames};
 use io_traits::Host;
@@ -24,6 +26,7 @@ pub(crate) fn fold<H: Host>(
     rules: &Rules,
 ) -> Result<Reply, AllocError>
     ensures later { H.faults host.old ≤ H.faults host.new }
+    ensures steady { result ≢ Ok says.HostFault → H.faults host.new ≡ H.faults host.old }
     ensures told { OnTold (H.held host.old) (H.held host.new) (FoldsFile limits.now.headers rules.now name.now (H.faults host.old) (H.faults host.new) result) }
 {
     if host.open_in(name).is_err() {
@@ -31,8 +34,8 @@ pub(crate) fn fold<H: Host>(
     }
     match fold_input(alloc, host, limits, rules) {
         Ok(reply) => Ok(reply),
-        Err(Ending::Replied(reply)) => Ok(reply),
-        Err(Ending::NoMemory) => Err(AllocError),
+        Err(FoldEnd::Replied(reply)) => Ok(reply),
+        Err(FoldEnd::NoMemory) => Err(AllocError),
     }
 }
 
@@ -42,13 +45,14 @@ fn fold_input<H: Host>(
     host: &mut H,
     limits: &Limits,
     rules: &Rules,
-) -> Result<Reply, Ending>
+) -> Result<Reply, FoldEnd>
     ensures later { H.faults host.old ≤ H.faults host.new }
+    ensures steady { result ≢ Err (Replied says.HostFault) → H.faults host.new ≡ H.faults host.old }
     ensures told { OnTold (H.held host.old) (H.held host.new) (FoldsInput limits.now.headers rules.now (H.faults host.old) (H.faults host.new) result) }
 {
     let mut frames = Frames::new(alloc, None)?;
     let mut folding = Folding::new(alloc, limits, rules)?;
-    let Some(block) = next_block(host, &mut frames)? else {
+    let Some(block) = next_block(alloc, host, &mut frames)? else {
         return Ok(folding.reply());
     };
     folding.add_first(alloc, &block)?;
@@ -62,27 +66,34 @@ fn fold_rest<H: Host>(
     host: &mut H,
     frames: &mut Frames,
     folding: &mut Folding,
-) -> Result<(), Ending>
+) -> Result<(), FoldEnd>
     ensures later { H.faults host.old ≤ H.faults host.new }
+    ensures steady { result ≢ Err (Replied says.HostFault) → H.faults host.new ≡ H.faults host.old }
     ensures told { OnTold (H.held host.old) (H.held host.new) (FoldsRest folding.old.limit folding.old.folded folding.new.folded frames.old (H.faults host.old) (H.faults host.new) result) }
 {
-    while let Some(block) = next_block(host, frames)? {
+    while let Some(block) = next_block(alloc, host, frames)? {
         folding.add(alloc, &block)?;
     }
     Ok(())
 }
 
-// The block of the next frame.
-fn next_block<H: Host>(host: &mut H, frames: &mut Frames) -> Result<Option<Block>, Ending>
-    ensures later { H.faults host.old ≤ H.faults host.new }
+// The block of the next frame, hashed once.
+fn next_block<H: Host>(
+    alloc: Global,
+    host: &mut H,
+    frames: &mut Frames,
+) -> Result<Option<HashedBlock>, FoldEnd>
     ensures told { OnTold (H.held host.old) (H.held host.new) (NextBlock frames.old frames.new (H.faults host.old) (H.faults host.new) result) }
     ensures some { IfOk result (λ found. IfSome found (λ _. frames.old.passed < frames.new.passed)) }
-    ensures bound { taken frames.new ≤ longest + 1 }
+    ensures bound { bytes_taken frames.new ≤ max_file_bytes + 1 }
+    ensures later { H.faults host.old ≤ H.faults host.new }
+    ensures steady { result ≢ Err (Replied says.HostFault) → H.faults host.new ≡ H.faults host.old }
 {
     match frames.next(host) {
-        Ok(found) => Ok(found),
-        Err(FrameFault::NoMemory) => Err(Ending::NoMemory),
-        Err(FrameFault::HostFailed) => Err(Ending::Replied(Reply::HostFault)),
-        Err(FrameFault::FileTooLong) => Err(Ending::Replied(Reply::FileTooLong)),
+        Ok(Some(block)) => Ok(Some(HashedBlock::new(alloc, block)?)),
+        Ok(None) => Ok(None),
+        Err(FrameFault::NoMemory) => Err(FoldEnd::NoMemory),
+        Err(FrameFault::HostFailed) => Err(FoldEnd::Replied(Reply::HostFault)),
+        Err(FrameFault::FileTooLong) => Err(FoldEnd::Replied(Reply::FileTooLong)),
     }
 }

@@ -1,24 +1,25 @@
 //! Folding blocks from genesis, each of which has to be a child of the one before it.
 
-ghost use Rattle.std.specs.Prelude.{◌≡◌, ◌+◌, ◌<◌, ◌≤◌, true, length, map, Ok, IfOk, OnOk, IfErr};
+ghost use Rattle.std.specs.Prelude.{◌≡◌, ◌+◌, ◌<◌, ◌≤◌, true, length, Ok, IfOk, OnOk, IfErr};
 ghost use Rattle.std.specs.FinMap as finite;
 ghost use Rattle.chain_model.specs.Apply.{outcome};
 ghost use Rattle.chain_model.specs.BodyRules.{place_below};
 ghost use Rattle.chain_model.specs.Folding.{nothing_folded, with_block};
-ghost use Rattle.block_codec.specs.Text.{hash_of_header, txid_of};
-ghost use Rattle.chain_model.specs.Tree.{genesis_hash};
+ghost use Rattle.block_codec.specs.Text.{hash_of_header};
+ghost use Rattle.block_codec.specs.Genesis.{genesis_hash};
 ghost use Rattle.chain_model.specs.Standing.{Stands};
 ghost use Rattle.machine.specs.Steps.{folded_reply};
+ghost use Rattle.command_text.specs.declared.reply.Reply.TheVariants as says;
+ghost use Rattle.coins_top.specs.declared.fold_end.FoldEnd.TheVariants.{Replied};
 ghost use Rattle.coins_top.specs.Folds.{EndsFold, HeaderEnds, BodyEnds, CoinsEnd, with_first};
 
-use crate::ending::Ending;
+use crate::fold_end::FoldEnd;
 use base_types::{Hash32, Limits, Rules};
 use block_checks::{CheckFault, check_hashed_body};
-use block_codec::{Block, Header, block_hash};
+use block_codec::HashedBlock;
 use chain_model::{Plain, ReplayFault, apply_hashed_block};
 use command_text::{Reply, Rule};
 use header_tree::{AcceptFault, Tree};
-use merkle::txids;
 use std::alloc::{AllocError, Global};
 use std::marker::Model;
 
@@ -66,14 +67,14 @@ impl Folding {
     }
 
     /// Folds the first block of a file, which is passed over where it is genesis.
-    pub fn add_first(&mut self, alloc: Global, block: &Block) -> Result<(), Ending>
+    pub fn add_first(&mut self, alloc: Global, block: &HashedBlock) -> Result<(), FoldEnd>
         requires first { self.old.folded.tip ≡ genesis_hash }
         requires none { self.old.folded.frames ≡ 0 }
         ensures ok { OnOk result (with_first self.old.limit self.old.folded block.now ≡ Ok self.new.folded) }
         ensures ends { IfErr result (EndsFold (with_first self.old.limit self.old.folded block.now)) }
         ensures limit { self.new.limit ≡ self.old.limit }
     {
-        if block_hash(&block.header) == self.tip {
+        if *block.hash() == self.tip {
             self.passed = 1;
             return Ok(());
         }
@@ -82,19 +83,18 @@ impl Folding {
 
     /// Folds one more block. The first reason to refuse it is told: it isn't a child of the tip, or breaks a rule of
     /// headers, of bodies or of coins.
-    pub fn add(&mut self, alloc: Global, block: &Block) -> Result<(), Ending>
+    pub fn add(&mut self, alloc: Global, block: &HashedBlock) -> Result<(), FoldEnd>
         ensures ok { OnOk result (with_block self.old.limit self.old.folded block.now ≡ Ok self.new.folded) }
         ensures ends { IfErr result (EndsFold (with_block self.old.limit self.old.folded block.now)) }
         ensures limit { self.new.limit ≡ self.old.limit }
     {
-        if block.header.prev != self.tip {
-            let hash = block_hash(&block.header);
-            return Err(Ending::Replied(Reply::NotNext { hash }));
+        if block.block().header.prev != self.tip {
+            let hash = *block.hash();
+            return Err(FoldEnd::Replied(Reply::NotNext { hash }));
         }
-        let hash = accept(&mut self.tree, &block.header)?;
-        let txids = txids(alloc, block.txs.as_slice())?;
-        check(alloc, block, &txids, hash, &self.tree)?;
-        apply(alloc, &mut self.coins, block, &txids, &self.tree)?;
+        let hash = accept(&mut self.tree, block)?;
+        check(alloc, block, &self.tree)?;
+        apply(alloc, &mut self.coins, block, &self.tree)?;
         self.tip = hash;
         Ok(())
     }
@@ -115,60 +115,50 @@ impl Folding {
     }
 }
 
-// Adds a header to the tree.
-fn accept(tree: &mut Tree, header: &Header) -> Result<Hash32, Ending>
-    ensures { HeaderEnds tree.old header.now tree.new result }
+// Adds the header of a block to the tree.
+fn accept(tree: &mut Tree, block: &HashedBlock) -> Result<Hash32, FoldEnd>
+    ensures { HeaderEnds tree.old block.now.header tree.new result }
 {
-    match tree.accept(header) {
+    match tree.accept(&block.block().header) {
         Ok(hash) => Ok(hash),
-        Err(AcceptFault::NoMemory) => Err(Ending::NoMemory),
-        Err(AcceptFault::Refused(why)) => Err(Ending::Replied(Reply::Block {
-            hash: block_hash(header),
-            rule: Rule::Header(why),
-        })),
+        Err(AcceptFault::NoMemory) => Err(FoldEnd::NoMemory),
+        Err(AcceptFault::Refused(why)) => Err(refusal(block, Rule::Header(why))),
     }
 }
 
-// Checks the body of a block of this hash and with these txids, whose header is in the tree.
-fn check(
-    alloc: Global,
-    block: &Block,
-    txids: &[Hash32],
-    hash: Hash32,
-    tree: &Tree,
-) -> Result<(), Ending>
-    requires parent { finite.contains_key tree.now.tree.headers block.now.header.prev ≡ true }
-    requires hashed { txids.now ≡ map txid_of block.now.txs }
-    ensures { BodyEnds (place_below tree.now.tree block.now.header.prev) block.now hash result }
+// Checks the body of a block whose header is in the tree.
+fn check(alloc: Global, block: &HashedBlock, tree: &Tree) -> Result<(), FoldEnd>
+    requires { finite.contains_key tree.now.tree.headers block.now.header.prev ≡ true }
+    ensures { BodyEnds (place_below tree.now.tree block.now.header.prev) block.now result }
 {
-    match check_hashed_body(alloc, block, txids, tree) {
+    match check_hashed_body(alloc, block, tree) {
         Ok(()) => Ok(()),
-        Err(CheckFault::NoMemory) => Err(Ending::NoMemory),
-        Err(CheckFault::Refused(why)) => Err(Ending::Replied(Reply::Block {
-            hash,
-            rule: Rule::Body(why),
-        })),
+        Err(CheckFault::NoMemory) => Err(FoldEnd::NoMemory),
+        Err(CheckFault::Refused(why)) => Err(refusal(block, Rule::Body(why))),
     }
 }
 
-// Applies a block with these txids to the coins.
-fn apply(
-    alloc: Global,
-    coins: &mut Plain,
-    block: &Block,
-    txids: &[Hash32],
-    tree: &Tree,
-) -> Result<(), Ending>
-    requires stands { Stands tree.now.tree block.now }
-    requires hashed { txids.now ≡ map txid_of block.now.txs }
+// Applies a block to the coins.
+fn apply(alloc: Global, coins: &mut Plain, block: &HashedBlock, tree: &Tree) -> Result<(), FoldEnd>
+    requires { Stands tree.now.tree block.now }
     ensures { CoinsEnd (outcome tree.now.tree coins.old block.now) (hash_of_header block.now.header) coins.new result }
 {
-    match apply_hashed_block(alloc, coins, block, txids, tree) {
+    match apply_hashed_block(alloc, coins, block, tree) {
         Ok(()) => Ok(()),
-        Err(ReplayFault::NoMemory) => Err(Ending::NoMemory),
-        Err(ReplayFault::Refused { hash, why }) => Err(Ending::Replied(Reply::Block {
+        Err(ReplayFault::NoMemory) => Err(FoldEnd::NoMemory),
+        Err(ReplayFault::Refused { hash, why }) => Err(FoldEnd::Replied(Reply::Block {
             hash,
             rule: Rule::Coin(why),
         })),
     }
+}
+
+// The end of a fold at a block that breaks a rule.
+fn refusal(block: &HashedBlock, rule: Rule) -> FoldEnd
+    ensures { result ≡ Replied (says.Block (hash_of_header block.now.header) rule) }
+{
+    FoldEnd::Replied(Reply::Block {
+        hash: *block.hash(),
+        rule,
+    })
 }

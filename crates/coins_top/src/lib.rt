@@ -2,8 +2,8 @@
 #![tactic(auto)]
 
 mod answering;
-mod ending;
 mod file_fold;
+mod fold_end;
 mod folding;
 mod pending;
 mod program;

@@ -8,7 +8,7 @@ use std::alloc::{AllocError, Global};
 use std::marker::Model;
 
 /// As many bytes of a line as matter: 4,096, a carriage return, and one that makes it too long.
-const MOST: usize = 4_098;
+const MAX_BYTES: usize = 4_098;
 
 /// The first bytes of the line that is being read. Of a longer line no more is kept.
 #[derive(Drop)]
@@ -40,7 +40,7 @@ impl PendingLine {
     pub fn push(&mut self, bytes: &[u8]) -> Result<(), AllocError>
         ensures { OnOk result (self.new ≡ kept_of (self.old ++ bytes.now)) }
     {
-        let count = bytes.len().min(MOST - self.bytes.len());
+        let count = bytes.len().min(MAX_BYTES - self.bytes.len());
         self.bytes.extend_from_slice(&bytes[..count])
     }
 

@@ -14,7 +14,7 @@ use io_traits::{Host, Sink, Source};
 use std::alloc::{AllocError, Global};
 
 /// The greatest number of bytes of commands.
-const MOST: usize = 16_777_216;
+const MAX_INPUT: usize = 16_777_216;
 
 /// How many bytes are read at once.
 const PIECE: usize = 65_536;
@@ -40,7 +40,9 @@ pub fn run<H: Host, I: Source, O: Sink>(
     ensures ended { result ≡ Status.Done → IsAtEnd (I.left input.new) }
     ensures taken { result ≡ Status.Done → IfSome (I.left input.old) (λ bytes. length bytes ≤ 16777216) }
 
-    // The counts of faults don't fall.
+    // The counts of the streams' faults stay but for a fault that is told, and none falls.
+    ensures steady_in { result ≢ Status.InFault → I.faults input.new ≡ I.faults input.old }
+    ensures steady_out { result ≢ Status.OutFault → O.faults out.new ≡ O.faults out.old }
     ensures later { (I.faults input.old ≤ I.faults input.new) × (H.faults host.old ≤ H.faults host.new) × (O.faults out.old ≤ O.faults out.new) }
 
     // With other words nothing is taken, done or written.
@@ -48,7 +50,7 @@ pub fn run<H: Host, I: Source, O: Sink>(
 
     // With told contents, the lines that were taken are served in order.
     ensures served { (bytes before : List ℕ) (held : Held) → result ≢ Status.Usage → I.left input.old ≡ Some bytes → H.held host.old ≡ Some held → O.written out.old ≡ Some before
-        → AnswersInput result limits.now.headers bytes before held (I.left input.new) (O.written out.new) (H.held host.new) (H.faults host.old) (H.faults host.new) }
+        → AnswersInput limits.now.headers result (record { input = bytes; written = before; held = held; faults = H.faults host.old }) (record { input = I.left input.new; written = O.written out.new; held = H.held host.new; faults = H.faults host.new }) }
 {
     if !words.is_empty() {
         return Status::Usage;
@@ -70,9 +72,11 @@ fn answer_input<H: Host, I: Source, O: Sink>(
     ensures too_long { result ≡ Status.TooLong → IfSome (I.left input.old) (λ bytes. 16777216 < length bytes) }
     ensures ended { result ≡ Status.Done → IsAtEnd (I.left input.new) }
     ensures taken { result ≡ Status.Done → IfSome (I.left input.old) (λ bytes. length bytes ≤ 16777216) }
+    ensures steady_in { result ≢ Status.InFault → I.faults input.new ≡ I.faults input.old }
+    ensures steady_out { result ≢ Status.OutFault → O.faults out.new ≡ O.faults out.old }
     ensures later { (I.faults input.old ≤ I.faults input.new) × (H.faults host.old ≤ H.faults host.new) × (O.faults out.old ≤ O.faults out.new) }
     ensures served { (bytes before : List ℕ) (held : Held) → I.left input.old ≡ Some bytes → H.held host.old ≡ Some held → O.written out.old ≡ Some before
-        → AnswersInput result limits.now.headers bytes before held (I.left input.new) (O.written out.new) (H.held host.new) (H.faults host.old) (H.faults host.new) }
+        → AnswersInput limits.now.headers result (record { input = bytes; written = before; held = held; faults = H.faults host.old }) (record { input = I.left input.new; written = O.written out.new; held = H.held host.new; faults = H.faults host.new }) }
 {
     let Ok(mut room) = room_for_piece(alloc) else {
         return Status::NoMemory;
@@ -81,14 +85,14 @@ fn answer_input<H: Host, I: Source, O: Sink>(
     let mut taken = 0;
     'reading: loop {
         // One byte past the most shows that there are too many.
-        let piece = &mut room[..(MOST - taken).clamp(1, PIECE)];
+        let piece = &mut room[..(MAX_INPUT - taken).clamp(1, PIECE)];
         let Ok(count) = input.read(piece) else {
             return Status::InFault;
         };
         if count == 0 {
             return status_of(answer(alloc, host, out, limits, line.text()));
         }
-        if taken == MOST {
+        if taken == MAX_INPUT {
             return Status::TooLong;
         }
         taken += count;

@@ -1,102 +1,44 @@
-//! Files of the system as a host's files. They tell nothing of what they hold, and count each failure.
+//! The system's files as raw files. They tell nothing of the calls that were made.
 
 ghost use Rattle.std.specs.Prelude.{None};
 
-use crate::streams::read_some;
-use io_traits::{Host, IoFailed};
+use crate::streams::{Reading, Writing};
+use io_traits::{IoFailed, RawFiles};
 use std::fs;
 use std::io::Write;
 use std::rt::Files;
 
-/// A host over the system's files. A name that isn't there counts as a failure.
+/// The files of the system.
 #[derive(Drop)]
-pub struct RealFiles<'a, R: Files> {
-    system: &'a R,
-    input: Option<R::File>,
-    created: Option<R::File>,
-    faults: u64,
+pub struct SystemFiles<'a, R: Files> {
+    pub system: &'a R,
 }
 
-impl<'a, R: Files> RealFiles<'a, R> {
-    pub fn new(system: &'a R) -> Self {
-        RealFiles {
-            system,
-            input: None,
-            created: None,
-            faults: 0,
-        }
-    }
-}
+impl<'a, R: Files> RawFiles for SystemFiles<'a, R> {
+    type Input = Reading<R::File>;
 
-impl<'a, R: Files> Host for RealFiles<'a, R> {
-    ghost held = { λ _. None };
+    type Output = Writing<R::File>;
 
-    ghost faults = { λ host. host.faults };
+    ghost calls = { λ _. None };
 
-    fn open_in(&mut self, name: &str) -> Result<(), IoFailed> {
-        self.input = None;
+    fn open(&mut self, name: &str) -> Result<Reading<R::File>, IoFailed> {
         match fs::open(self.system, name) {
-            Ok(file) => {
-                self.input = Some(file);
-                Ok(())
-            }
-            Err(_) => {
-                self.faults = self.faults.saturating_add(1);
-                Err(IoFailed)
-            }
+            Ok(reader) => Ok(Reading { reader }),
+            Err(_) => Err(IoFailed),
         }
     }
 
-    fn read_in(&mut self, buf: &mut [u8]) -> Result<usize, IoFailed> {
-        let Some(file) = &mut self.input else {
-            return Ok(0);
-        };
-        match read_some(file, buf) {
-            Ok(count) => Ok(count),
-            Err(failed) => {
-                self.faults = self.faults.saturating_add(1);
-                Err(failed)
-            }
-        }
-    }
-
-    fn create(&mut self, name: &str) -> Result<(), IoFailed> {
-        self.created = None;
+    fn create(&mut self, name: &str) -> Result<Writing<R::File>, IoFailed> {
         match fs::create(self.system, name) {
-            Ok(file) => {
-                self.created = Some(file);
-                Ok(())
-            }
-            Err(_) => {
-                self.faults = self.faults.saturating_add(1);
-                Err(IoFailed)
-            }
+            Ok(writer) => Ok(Writing { writer }),
+            Err(_) => Err(IoFailed),
         }
     }
 
-    fn write(&mut self, bytes: &[u8]) -> Result<(), IoFailed> {
-        let Some(file) = &mut self.created else {
-            return Ok(());
-        };
-        match file.write_all(bytes) {
+    fn close(&mut self, mut output: Writing<R::File>) -> Result<(), IoFailed> {
+        match output.writer.flush() {
             Ok(()) => Ok(()),
-            Err(_) => {
-                self.faults = self.faults.saturating_add(1);
-                Err(IoFailed)
-            }
-        }
-    }
-
-    fn finish(&mut self) -> Result<(), IoFailed> {
-        let Some(mut file) = self.created.take() else {
-            return Ok(());
-        };
-        match file.flush() {
-            Ok(()) => Ok(()),
-            Err(_) => {
-                self.faults = self.faults.saturating_add(1);
-                Err(IoFailed)
-            }
+            Err(_) => Err(IoFailed),
         }
     }
 }

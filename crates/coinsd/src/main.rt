@@ -5,7 +5,8 @@ mod files;
 mod streams;
 
 use coins_top::{Limits, Salt, Status, Words, run};
-use files::RealFiles;
+use files::SystemFiles;
+use io_traits::{UntoldHost, UntoldSink, UntoldSource};
 use std::env;
 use std::fs::File;
 use std::io::{ErrorKind, Read};
@@ -54,9 +55,11 @@ fn status_of(rt: &HostRuntime) -> Status {
         Ok(words) => words,
         Err(status) => return status,
     };
-    let mut host = RealFiles::new(rt);
-    let mut input = Reading::new(rt.stdin());
-    let mut out = Writing::new(rt.stdout());
+    let mut host = UntoldHost::new(SystemFiles { system: rt });
+    let mut input = UntoldSource::new(Reading { reader: rt.stdin() });
+    let mut out = UntoldSink::new(Writing {
+        writer: rt.stdout(),
+    });
     run(
         rt.alloc(),
         &words,
@@ -71,6 +74,7 @@ fn status_of(rt: &HostRuntime) -> Status {
 fn main(rt: HostRuntime) -> ExitCode {
     let status = status_of(&rt);
     if status == Status::Usage {
+        // Where standard error can't be written to, the status says enough.
         let _ = eprintln!(rt; "usage: coinsd");
     }
     ExitCode::from(status.number())

@@ -1,13 +1,15 @@
-use crate::files::RealFiles;
+//! The adapters over real files.
+
+use crate::files::SystemFiles;
 use crate::streams::{Reading, Writing};
-use io_traits::{Host, Sink, Source};
+use io_traits::{Host, Sink, Source, UntoldHost, UntoldSink, UntoldSource};
 use std::fs::File;
 use std::test::Fail;
 
 // A file that is written, and read in pieces by the name that it was given.
 #[test]
 fn files_are_written_and_read(rt: HostRuntime) -> Result<(), Fail> {
-    let mut host = RealFiles::new(&rt);
+    let mut host = UntoldHost::new(SystemFiles { system: &rt });
     let mut buf = [0; 4];
     assert!(rt; host.write(b"nothing").is_ok());
     assert_eq!(rt; host.read_in(&mut buf), Ok(0));
@@ -33,14 +35,17 @@ fn files_are_written_and_read(rt: HostRuntime) -> Result<(), Fail> {
 fn streams_read_and_write(rt: HostRuntime) -> Result<(), Fail> {
     let mut buf = [0; 8];
     let file = File::create(&rt, "c.dat").ok().ok_or("created")?;
-    let mut sink = Writing::new(file);
+    let mut sink = UntoldSink::new(Writing { writer: file });
     assert!(rt; sink.write(b"reply\n").is_ok());
-    let mut source = Reading::new(File::open(&rt, "c.dat").ok().ok_or("opened")?);
+    let reader = File::open(&rt, "c.dat").ok().ok_or("opened")?;
+    let mut source = UntoldSource::new(Reading { reader });
     assert_eq!(rt; source.read(&mut buf), Ok(6));
     assert_eq!(rt; source.read(&mut buf), Ok(0));
-    let mut unwritable = Writing::new(File::open(&rt, "c.dat").ok().ok_or("opened")?);
+    let writer = File::open(&rt, "c.dat").ok().ok_or("opened")?;
+    let mut unwritable = UntoldSink::new(Writing { writer });
     assert!(rt; unwritable.write(b"x").is_err());
-    let mut folder = Reading::new(File::open(&rt, ".").ok().ok_or("opened")?);
+    let reader = File::open(&rt, ".").ok().ok_or("opened")?;
+    let mut folder = UntoldSource::new(Reading { reader });
     assert!(rt; folder.read(&mut buf).is_err());
     Ok(())
 }

@@ -1,6 +1,6 @@
-pub mod Masks
+pub mod Headers
 pub mod Scanning
+pub mod Scans
 pub mod Searching
 pub mod Steps
-pub mod Scans
 pub mod Windows

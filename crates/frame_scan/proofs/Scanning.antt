@@ -13,7 +13,8 @@ use Rattle.block_codec.specs.Reading.{Wrong, block_of}
 use Rattle.block_codec.specs.Frames.{begins_frame, frame_len, frame_at, found_or, frames_after}
 use Rattle.frame_scan.specs.declared.head.Head.TheVariants.{Absent, Whole}
 use Rattle.frame_scan.specs.Head.{IsHeadOf}
-use Rattle.frame_scan.specs.Search.{SameFrames, HasFrame}
+use Rattle.frame_scan.specs.Search.{SameFrames, HasFrame, BeginsBlock}
+use Rattle.frame_scan.proofs.Headers.{block_there}
 
 frames_after-nil : (n : ℕ) → frames_after n [] ≡ []
 unfolding frames_after
@@ -101,6 +102,21 @@ pub block_taken : (bytes : List ℕ) (len : ℕ) (block : Block) → IsHeadOf by
 block_taken bytes len block is read = λ rest follows.
     block_here (bytes ++ rest) len block (is.1 rest).0 (is.1 rest).1 (ap block_of (behind_head bytes rest len is.0) ∙ read)
     ∙ ap (λ (zs : List ℕ). block ∷ frames_after 0 zs) (drop-append-le (8 + len) bytes rest is.0)
+
+-- the frame of a block that stands first
+pub frame_first : (len : ℕ) (bytes : List ℕ) → BeginsBlock len bytes → (block : Block) × (frame_at bytes ≡ Some block)
+unfolding frame_at
+frame_first len bytes begins =
+    let there = block_there (between 8 (8 + len) bytes) begins.block in
+    let none = append-nil bytes in
+    let head : begins_frame bytes ≡ true = ap begins_frame (sym none) ∙ (begins.head.1 []).0 in
+    let size : frame_len bytes ≡ len = ap frame_len (sym none) ∙ (begins.head.1 []).1 in
+    let same : take len (drop 8 bytes) ≡ between 8 (8 + len) bytes = ap (λ (zs : List ℕ). take len (drop 8 zs)) (sym none) ∙ behind_head bytes [] len begins.head.0 in (
+      there.0,
+      ap (λ (b : Bool). if b then result_ok (block_of (take (frame_len bytes) (drop 8 bytes))) else None) head
+          ∙ ap (λ n. result_ok (block_of (take n (drop 8 bytes)))) size
+          ∙ ap (λ r. result_ok r) (ap block_of same ∙ there.1),
+    )
 
 -- what is not read has a fault
 fault_of : (read : Result Block Wrong) → is_ok read ≡ false → (wrong : Wrong) × (read ≡ Err wrong)

@@ -2,13 +2,13 @@
 
 ghost use Rattle.frame_scan.specs.Head.{IsHeadOf};
 
-/// The message start of regtest (`pchMessageStart` in Bitcoin Core's `kernel/chainparams.cpp`).
-pub(crate) const MAGIC: [u8; 4] = [0xfa, 0xbf, 0xb5, 0xda];
+use base_types::MESSAGE_START;
 
-/// The fewest and the most bytes of a block that a head may claim.
-const LEAST: usize = 80;
+/// The fewest bytes of a block that a head may claim.
+const MIN_LEN: usize = 80;
 
-const MOST: usize = 4_000_000;
+/// The most bytes of a block that a head may claim.
+const MAX_LEN: usize = 4_000_000;
 
 /// What stands at the front of bytes.
 pub(crate) enum Head {
@@ -27,11 +27,11 @@ pub(crate) fn head_of(bytes: &[u8]) -> Head
     let [m0, m1, m2, m3, l0, l1, l2, l3, rest @ ..] = bytes else {
         return Head::Cut;
     };
-    if [*m0, *m1, *m2, *m3] != MAGIC {
+    if [*m0, *m1, *m2, *m3] != MESSAGE_START {
         return Head::Absent;
     }
     let len = u32::from_le_bytes([*l0, *l1, *l2, *l3]) as usize;
-    if len < LEAST || len > MOST {
+    if len < MIN_LEN || len > MAX_LEN {
         return Head::Absent;
     }
     if rest.len() < len {

@@ -1,11 +1,10 @@
 //! The blocks of a block file, one after another: a scan over the open input of a host, which finds frames between any
-//! other bytes and takes a mask off the file.
+//! other bytes and takes the obfuscation off a file.
 #![tactic(auto)]
 
 mod fault;
 mod frames;
 mod head;
-mod mask;
 mod reading;
 mod search;
 mod window;

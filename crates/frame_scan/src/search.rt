@@ -1,29 +1,23 @@
 //! Looking for a frame among the bytes that were taken.
 
-ghost use Rattle.std.specs.Prelude.{◌≡◌, ◌<◌, false, length, IfOk, IfSome, IfErr};
+ghost use Rattle.std.specs.Prelude.{◌≡◌, ◌+◌, false, drop, IfOk, IfErr, OnOk, OnErr};
 ghost use Rattle.frame_scan.specs.declared.fault.FrameFault.TheVariants.{NoMemory};
-ghost use Rattle.frame_scan.specs.declared.head.Head.TheVariants.{Whole};
-ghost use Rattle.frame_scan.specs.Head.{IsHeadOf};
-ghost use Rattle.frame_scan.specs.Search.{IsRest, Finds, SameFrames, TakesBlock};
+ghost use Rattle.frame_scan.specs.Search.{IsRest, Finds, SameFrames, HasFrame, HasHeader, BeginsBlock};
 
 use crate::fault::FrameFault;
-use crate::head::{Head, MAGIC, head_of};
+use crate::head::{Head, head_of};
 use crate::window::Window;
-use block_codec::{Block, BlockFault, is_block, read_block};
+use base_types::{Cursor, MESSAGE_START};
+use block_codec::{Block, BlockFault, Header, is_block, read_block, read_header};
 use memchr::memchr;
 use std::alloc::Global;
 
-/// Passes bytes up to the first frame, and takes it. None where the bytes that are left may yet become one, by what
-/// follows them; at the end of the file nothing does.
-pub(crate) fn find_block(
-    alloc: Global,
-    window: &mut Window,
-    is_end: bool,
-) -> Result<Option<Block>, FrameFault>
+/// Passes bytes up to the first frame, and answers the length of its block. None where the bytes that are left may yet
+/// become one, by what follows them; at the end of the file nothing does. It takes no memory: a stranger can fill a file
+/// with false heads.
+pub(crate) fn find_frame(window: &mut Window, is_end: bool) -> Option<usize>
     ensures found { Finds is_end result window.old window.new }
     ensures rest { IsRest window.old window.new }
-    ensures some { IfOk result (λ found. IfSome found (λ _. length window.new < length window.old)) }
-    ensures memory { IfErr result (λ error. error ≡ NoMemory) }
 {
     loop {
         pass_to_magic(window);
@@ -31,14 +25,15 @@ pub(crate) fn find_block(
             Head::Absent => window.pass(1),
             Head::Cut => {
                 if !is_end || window.as_slice().is_empty() {
-                    return Ok(None);
+                    return None;
                 }
                 window.pass(1);
             }
             Head::Whole { len } => {
-                if let Some(block) = take_block(alloc, window, len)? {
-                    return Ok(Some(block));
+                if is_block(&window.as_slice()[8..8 + len]) {
+                    return Some(len);
                 }
+                window.pass(1);
             }
         }
     }
@@ -50,26 +45,44 @@ fn pass_to_magic(window: &mut Window)
     ensures rest { IsRest window.old window.new }
 {
     let bytes = window.as_slice();
-    let count = memchr(MAGIC[0], bytes).unwrap_or(bytes.len());
+    let count = memchr(MESSAGE_START[0], bytes).unwrap_or(bytes.len());
     window.pass(count);
 }
 
-/// Takes the block behind a head. Where those bytes are none, it passes the first byte of the head, and takes no memory.
-fn take_block(alloc: Global, window: &mut Window, len: usize) -> Result<Option<Block>, FrameFault>
-    requires { IsHeadOf window.old (Whole len) }
-    ensures found { TakesBlock len result window.old window.new }
+/// Takes the block of the frame that stands first.
+pub(crate) fn take_block(
+    alloc: Global,
+    window: &mut Window,
+    len: usize,
+) -> Result<Block, FrameFault>
+    requires { BeginsBlock len window.old }
+    ensures block { IfOk result (λ block. HasFrame false window.old block window.new) }
+    ensures passed { OnOk result (window.new ≡ drop (8 + len) window.old) }
+    ensures kept { OnErr result (window.new ≡ window.old) }
     ensures memory { IfErr result (λ error. error ≡ NoMemory) }
 {
-    let bytes = &window.as_slice()[8..8 + len];
-    // A stranger can fill a file with false heads, so a block is only read where one stands.
-    if !is_block(bytes) {
-        window.pass(1);
-        return Ok(None);
-    }
-    match read_block(alloc, bytes) {
+    match read_block(alloc, &window.as_slice()[8..8 + len]) {
         Ok(block) => {
             window.pass(8 + len);
-            Ok(Some(block))
+            Ok(block)
+        }
+        Err(BlockFault::NoMemory) => Err(FrameFault::NoMemory),
+        Err(BlockFault::Bad { .. }) => unreachable!(),
+    }
+}
+
+/// Takes the header of the block of the frame that stands first, and passes the frame.
+pub(crate) fn take_header(window: &mut Window, len: usize) -> Result<Header, FrameFault>
+    requires { BeginsBlock len window.old }
+    ensures header { IfOk result (λ header. HasHeader window.old header window.new) }
+    ensures passed { OnOk result (window.new ≡ drop (8 + len) window.old) }
+    ensures kept { OnErr result (window.new ≡ window.old) }
+    ensures memory { IfErr result (λ error. error ≡ NoMemory) }
+{
+    match read_header(&mut Cursor::new(&window.as_slice()[8..8 + len])) {
+        Ok(header) => {
+            window.pass(8 + len);
+            Ok(header)
         }
         Err(BlockFault::NoMemory) => Err(FrameFault::NoMemory),
         Err(BlockFault::Bad { .. }) => unreachable!(),

@@ -4,11 +4,10 @@ ghost use Rattle.std.specs.Prelude.{◌≤◌, None};
 ghost use Rattle.io_traits.specs.Causes.{Rose};
 
 use crate::{FrameFault, Frames};
+use base_types::{MESSAGE_START, obfuscate};
 use io_traits::{Host, IoFailed, MemHost};
 use std::alloc::{AllocError, Global};
 use std::test::Fail;
-
-const MAGIC: [u8; 4] = [0xfa, 0xbf, 0xb5, 0xda];
 
 const KEY: [u8; 8] = [0x11, 0x22, 0xfa, 0xbf, 0xb5, 0xda, 0, 0xff];
 
@@ -35,7 +34,7 @@ impl<'a> Pieces<'a> {
     }
 }
 
-fn counted(faults: &mut u64) -> IoFailed
+fn count_fault(faults: &mut u64) -> IoFailed
     ensures rose { Rose faults.old faults.new }
     ensures later { faults.old ≤ faults.new }
 {
@@ -49,13 +48,13 @@ impl<'a> Host for Pieces<'a> {
     ghost faults = { λ h. h.faults };
 
     fn open_in(&mut self, _name: &str) -> Result<(), IoFailed> {
-        Err(counted(&mut self.faults))
+        Err(count_fault(&mut self.faults))
     }
 
     fn read_in(&mut self, buf: &mut [u8]) -> Result<usize, IoFailed> {
         self.reads = self.reads.saturating_add(1);
         if self.fail.contains(&self.reads) {
-            return Err(counted(&mut self.faults));
+            return Err(count_fault(&mut self.faults));
         }
         let count = buf.len().min(self.most).min(self.left.len());
         let (front, rest) = self.left.split_at(count);
@@ -65,15 +64,15 @@ impl<'a> Host for Pieces<'a> {
     }
 
     fn create(&mut self, _name: &str) -> Result<(), IoFailed> {
-        Err(counted(&mut self.faults))
+        Err(count_fault(&mut self.faults))
     }
 
     fn write(&mut self, _bytes: &[u8]) -> Result<(), IoFailed> {
-        Err(counted(&mut self.faults))
+        Err(count_fault(&mut self.faults))
     }
 
     fn finish(&mut self) -> Result<(), IoFailed> {
-        Err(counted(&mut self.faults))
+        Err(count_fault(&mut self.faults))
     }
 }
 
@@ -90,7 +89,7 @@ enum Part {
 }
 
 fn put_head(file: &mut Vec<u8>, len: u32) -> Result<(), AllocError> {
-    file.extend_from_slice(&MAGIC)?;
+    file.extend_from_slice(&MESSAGE_START)?;
     file.extend_from_slice(&len.to_le_bytes())
 }
 
@@ -119,12 +118,6 @@ fn file_of(alloc: Global, parts: &[Part]) -> Result<Vec<u8>, AllocError> {
         }
     }
     Ok(file)
-}
-
-fn mask(file: &mut [u8], key: &[u8; 8]) {
-    for (place, byte) in file.iter_mut().enumerate() {
-        *byte ^= key[place % 8];
-    }
 }
 
 /// The last bytes of the nonces of the blocks that a scan gives, and how often it failed on the way.
@@ -201,7 +194,7 @@ fn each_whole_block_comes_once_and_in_order(rt: HostRuntime) -> Result<(), Fail>
         let mut file = file_of(rt.alloc(), parts)?;
         for key in [None, Some(KEY)] {
             if let Some(key) = key {
-                mask(&mut file, &key);
+                obfuscate(&mut file, &key, 0);
             }
             for (most, fail, failures) in [
                 (1, [0, 0], 0),
@@ -258,11 +251,11 @@ fn a_file_of_a_host(rt: HostRuntime) -> Result<(), Fail> {
     assert_eq!(rt; host.open_in("blocks"), Ok(()));
     let mut scan = Frames::new(rt.alloc(), None)?;
     assert!(rt; matches!(scan.next(&mut host), Err(FrameFault::HostFailed)));
-    for nonce in [1, 2] {
-        let found = scan.next(&mut host)?;
-        assert_eq!(rt; found.map(|block| block.header.nonce), Some(nonce));
-    }
-    assert!(rt; scan.next(&mut host)?.is_none());
+    let header = scan.next_header(&mut host)?;
+    assert_eq!(rt; header.map(|header| header.nonce), Some(1));
+    let block = scan.next(&mut host)?;
+    assert_eq!(rt; block.map(|block| block.header.nonce), Some(2));
+    assert!(rt; scan.next_header(&mut host)?.is_none());
     assert!(rt; scan.next(&mut host)?.is_none());
     Ok(())
 }

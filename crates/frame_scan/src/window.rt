@@ -1,11 +1,11 @@
 //! The bytes of a file that were taken and not passed yet.
 
-ghost use Rattle.std.specs.Prelude.{◌≡◌, ◌≢◌, ◌+◌, ◌-◌, ◌^◌, ◌<◌, ◌≤◌, [], length, take, drop, vec_len, IfOk, IfErr, OnOk, OnErr, IsErrOf};
+ghost use Rattle.std.specs.Prelude.{◌≡◌, ◌≢◌, ◌+◌, ◌-◌, ◌^◌, ◌<◌, ◌≤◌, [], length, take, drop, vec_len, IfOk, IfErr, OnOk, OnErr, IsErrOf, Err};
 ghost use Rattle.std.specs.List.{between};
 ghost use Rattle.io_traits.specs.Causes.{Rose};
 ghost use Rattle.io_traits.specs.Told.{OnTold};
-ghost use Rattle.io_traits.specs.Host.{unread};
-ghost use Rattle.frame_scan.specs.declared.fault.FrameFault.TheVariants.{HostFailed, FileTooLong};
+ghost use Rattle.io_traits.specs.Host.{unread_bytes};
+ghost use Rattle.frame_scan.specs.declared.fault.FrameFault.TheVariants.{NoMemory, HostFailed, FileTooLong};
 ghost use Rattle.frame_scan.specs.Scan.{Takes};
 
 use crate::fault::FrameFault;
@@ -15,10 +15,10 @@ use std::alloc::{AllocError, Global};
 use std::marker::Model;
 
 /// The most bytes of one read.
-pub(crate) const PIECE: usize = 65_536;
+pub(crate) const PIECE_BYTES: usize = 65_536;
 
 /// The most bytes of a window: a frame of the greatest length and a piece.
-const LARGEST: usize = 4_065_544;
+const MAX_WINDOW: usize = 4_065_544;
 
 /// Bytes in order, which are passed at the front and taken from a host at the end.
 #[derive(Drop)]
@@ -46,7 +46,7 @@ impl Window {
         ensures { IfOk result (λ window. window ≡ []) }
     {
         Ok(Window {
-            bytes: vec![in alloc; 0; PIECE]?,
+            bytes: vec![in alloc; 0; PIECE_BYTES]?,
             start: 0,
             end: 0,
         })
@@ -82,9 +82,11 @@ impl Window {
         ensures kept { OnErr result (self.new ≡ self.old) }
         ensures most { length self.new ≤ 4065544 }
         ensures bytes { OnTold (H.held host.old) (H.held host.new) (Takes key.now offset self.old self.new) }
-        ensures ended { IfOk result (λ count. count ≡ 0 → OnTold (H.held host.old) (H.held host.new) (λ s t. unread t ≡ [])) }
+        ensures ended { IfOk result (λ count. count ≡ 0 → OnTold (H.held host.old) (H.held host.new) (λ s t. unread_bytes t ≡ [])) }
         ensures later { H.faults host.old ≤ H.faults host.new }
         ensures failed { IsErrOf result HostFailed → Rose (H.faults host.old) (H.faults host.new) }
+        ensures steady { result ≢ Err HostFailed → H.faults host.new ≡ H.faults host.old }
+        ensures memory { IsErrOf result NoMemory → 32768 < length self.old }
         ensures causes { IfErr result (λ error. error ≢ FileTooLong) }
     {
         let len = self.end - self.start;
@@ -107,9 +109,10 @@ fn make_room(bytes: &mut Vec<u8>, start: usize, end: usize) -> Result<usize, All
     ensures room { IfOk result (λ at. at + (end - start) < vec_len bytes.new) }
     ensures same { IfOk result (λ at. between at (at + (end - start)) bytes.new.items ≡ between start end bytes.old.items) }
     ensures err { OnErr result (bytes.new.items ≡ bytes.old.items) }
+    ensures grows { OnErr result (32768 < end - start) }
     ensures size { (65536 ≤ vec_len bytes.new) × (vec_len bytes.new ≤ 4065544) }
 {
-    if start >= end - start || end == LARGEST {
+    if start >= end - start || end == MAX_WINDOW {
         bytes.copy_within(start..end, 0);
         return Ok(0);
     }
@@ -128,7 +131,7 @@ fn grow(bytes: &mut Vec<u8>) -> Result<(), AllocError>
     ensures size { (vec_len bytes.old ≤ vec_len bytes.new) × (vec_len bytes.new ≤ 4065544) }
 {
     let len = bytes.len();
-    let more = len.min(LARGEST - len);
+    let more = len.min(MAX_WINDOW - len);
     bytes.reserve_exact(more)?;
     bytes.resize(len + more, 0)
 }

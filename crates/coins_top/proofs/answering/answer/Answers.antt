@@ -1,14 +1,12 @@
-use Rattle.std.proofs.Common.{◌≡◌, ◌≤◌, ◌∷◌, ◌++◌, [], List, ℕ, take, Ok, Err, ap, sym, subst, ◌∙◌}
+use Rattle.std.proofs.Common.{◌≡◌, ◌∷◌, ◌++◌, [], List, ℕ, take, ap, subst, ◌∙◌}
 use Rattle.std.specs.Prelude.{Some, None}
 use Rattle.std.specs.Io.KnownBytes.{Appends}
 use Rattle.std.proofs.lemmas.Result.{err_from_is_err_and}
 use Rattle.command_text.specs.Lines.{line_of}
 use Rattle.command_text.specs.Replies.{reply_text}
-use Rattle.io_traits.specs.Host.{Files}
 use Rattle.io_traits.specs.Streams.{AppendsPart}
-use Rattle.io_traits.specs.Told.{OnTold}
 use Rattle.machine.specs.Answers.{SameBut, file_begun}
-use Rattle.coins_top.specs.Session.{Outside, outside, setting_of, ServesLine, Serves, Stopped, Answers}
+use Rattle.coins_top.specs.Session.{setting_of, ServesLine, Serves, Stopped}
 use Rattle.coins_top.proofs.AnsweredLines.{outside_host, outside_both, line_stopped, line_silent, line_answered, line_cut, line_unwritten}
 use Rattle.coins_top.proofs.answering.answer.Goals as goal
 

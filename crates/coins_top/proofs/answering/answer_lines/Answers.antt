@@ -1,8 +1,8 @@
-use Rattle.std.proofs.Common.{◌≡◌, ◌≤◌, ◌∷◌, ◌++◌, [], List, ℕ, length, Ok, Err, ap, sym, subst, ◌∙◌, arith}
+use Rattle.std.proofs.Common.{◌≡◌, ◌∷◌, ◌++◌, [], List, ℕ, ap, sym, subst, ◌∙◌, arith}
 use Rattle.std.proofs.lemmas.Result.{err_from_is_err_and}
 use Rattle.command_text.specs.Lines.{line_of, without_return}
 use Rattle.io_traits.specs.Told.{OnTold}
-use Rattle.coins_top.specs.Session.{Asked, asked, Outside, outside, setting_of, Serves, Stopped, kept_of}
+use Rattle.coins_top.specs.Session.{Asked, asked, outside, setting_of, Serves, Stopped, kept_of}
 use Rattle.coins_top.proofs.AnsweredLines.{IsDone, IsDone-more, IsDone-all, IsDone-kept, IsDone-halted, IsDone-stopped}
 use Rattle.coins_top.proofs.answering.answer_lines.Goals as goal
 
@@ -44,7 +44,7 @@ loop-front-preserved g c =
       done = subst (λ (l : List ℕ). IsDone setting c.args.line.now c.args.bytes.now l behind from now a d) (sym c.clear.ensures)
           (IsDone-more setting c.args.line.now c.args.bytes.now at.line at.rest.now front behind from (g.H.Host.faults at.host) now a b d c.in-Some.ensures.0 at.invariant.done serves);
       later = omega (arith, at.invariant.later, c.in_ok-answer.ensures.later);
-      written = omega (arith, at.invariant.written, c.in_ok-answer.ensures.written);
+      steady = c.in_ok-answer.ensures.steady (λ is. cc) ∙ at.invariant.steady;
     }
 
 pub returns-in_err-push-2-clause-told : goal.returns-in_err-push-2-clause-told

@@ -2,9 +2,8 @@ use Rattle.std.proofs.Common.{◌≡◌, ℕ, Ok, Err, ap, sym, subst, ◌∙◌
 use Rattle.std.proofs.lemmas.Result.{err_from_is_err_and}
 use Rattle.chain_model.specs.Folding.{Folded, nothing_folded}
 use Rattle.command_text.specs.declared.reply.Reply.{Reply}
-use Rattle.frame_scan.specs.Scan.{taken}
+use Rattle.frame_scan.specs.Scan.{bytes_taken}
 use Rattle.io_traits.specs.Told.{OnTold}
-use Rattle.machine.specs.Steps.{folded_reply}
 use Rattle.coins_top.specs.Folds.{EndsFold, with_first}
 use Rattle.coins_top.specs.FileFolds.{FoldsRest, FoldsInput}
 use Rattle.coins_top.proofs.FoldingFiles.{IsStart, input_refused, input_ended, input_folded}
@@ -15,7 +14,7 @@ returns-in_err-add_first-clause-told g c =
     let scan = c.in_ok-frames.frames in
     let f = c.in_ok-folding.folding in
     let block = c.in-Some.block in
-    let start : IsStart scan = record { frames = c.in_ok-frames.ensures.whole; taken = ap taken c.in_ok-frames.ensures.start } in
+    let start : IsStart scan = record { frames = c.in_ok-frames.ensures.whole; bytes_taken = ap bytes_taken c.in_ok-frames.ensures.start } in
     let p = err_from_is_err_and c.from_residual-in_err-add_first.result c.from_residual-in_err-add_first.ensures.1 in
     let found = rw c.in-Some.is at c.in_ok-block.ensures.told in
     let ending = c.in_err-add_first.field-0.0 in
@@ -34,7 +33,7 @@ returns-in_err-fold_rest-clause-told g c =
     let a = g.H.Host.held c.args.host.now in
     let b = g.H.Host.held c.next_block.new.host in
     let d = g.H.Host.held c.fold_rest.new.host in
-    let start : IsStart scan = record { frames = c.in_ok-frames.ensures.whole; taken = ap taken c.in_ok-frames.ensures.start } in
+    let start : IsStart scan = record { frames = c.in_ok-frames.ensures.whole; bytes_taken = ap bytes_taken c.in_ok-frames.ensures.start } in
     let p = err_from_is_err_and c.from_residual-in_err-fold_rest.result c.from_residual-in_err-fold_rest.ensures.1 in
     let found = rw c.in-Some.is at c.in_ok-block.ensures.told in
     let ending = c.in_err-fold_rest.field-0.0 in
@@ -56,7 +55,7 @@ returns-clause-told g c =
     let a = g.H.Host.held c.args.host.now in
     let b = g.H.Host.held c.next_block.new.host in
     let d = g.H.Host.held c.fold_rest.new.host in
-    let start : IsStart scan = record { frames = c.in_ok-frames.ensures.whole; taken = ap taken c.in_ok-frames.ensures.start } in
+    let start : IsStart scan = record { frames = c.in_ok-frames.ensures.whole; bytes_taken = ap bytes_taken c.in_ok-frames.ensures.start } in
     let found = rw c.in-Some.is at c.in_ok-block.ensures.told in
     let added : with_first c.args.limits.now.headers (nothing_folded c.args.rules.now) block ≡ Ok next.folded =
     sym (ap (λ (folded : Folded). with_first c.args.limits.now.headers folded block) c.in_ok-folding.ensures.first)

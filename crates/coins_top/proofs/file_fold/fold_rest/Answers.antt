@@ -1,4 +1,4 @@
-use Rattle.std.proofs.Common.{◌≡◌, ◌≤◌, ℕ, Ok, Err, ap, sym, subst, ◌∙◌, arith}
+use Rattle.std.proofs.Common.{ℕ, ap, sym, subst, ◌∙◌}
 use Rattle.std.proofs.lemmas.Result.{err_from_is_err_and}
 use Rattle.chain_model.specs.Folding.{with_block}
 use Rattle.coins_top.specs.Folds.{EndsFold}
@@ -25,7 +25,7 @@ loop-block-preserved g c =
       going = Going-more (g.H.Host.held c.args.host.now) (g.H.Host.held at.host) (g.H.Host.held c.next_block.new.host) first.limit first.folded at.folding.folded c.add.new.self.folded c.args.frames.now at.frames c.next_block.new.frames c.in-Some.block
           (g.H.Host.faults at.host) (g.H.Host.faults c.next_block.new.host) added at.invariant.going found;
       limit = c.in_ok-add.ensures.limit ∙ at.invariant.limit;
-      later = omega (arith, at.invariant.later, c.in_ok-block.ensures.later);
+      steady = c.in_ok-block.ensures.steady (λ is. cc) ∙ at.invariant.steady;
     }
 
 pub returns-clause-told : goal.returns-clause-told

@@ -1,13 +1,12 @@
-use Rattle.std.proofs.Common.{◌≡◌, ◌≤◌, ◌<◌, ◌+◌, [], List, ℕ, length, take, Err, Ok, ap, sym, subst, ◌∙◌, refl, arith}
-use Rattle.std.specs.Prelude.{Option}
-use Rattle.std.specs.Io.KnownBytes.{Consumes, IsAtEnd}
+use Rattle.std.proofs.Common.{◌≡◌, ◌≤◌, ◌+◌, [], ℕ, length, take, ap, sym, subst, ◌∙◌, refl, arith}
+use Rattle.std.specs.Io.KnownBytes.{Consumes}
 use Rattle.std.proofs.lemmas.List.{length-take, length-take-le}
 use Rattle.base_types.specs.declared.program.Status.{Status}
 use Rattle.base_types.specs.declared.program.Status.TheVariants as status
 use Rattle.command_text.specs.Lines.{line_of}
 use Rattle.coins_top.specs.Run.{AnswersInput}
 use Rattle.coins_top.specs.Session.{outside, setting_of}
-use Rattle.coins_top.proofs.Running.{IsRead, IsRead-none, IsRead-more, IsRead-failed, IsRead-nothing, begins, exit_kept, exit_long, exit_last, exit_among, no_memory_goes, in_fault_goes}
+use Rattle.coins_top.proofs.Running.{IsRead-none, IsRead-more, IsRead-failed, IsRead-nothing, begins, exit_kept, exit_long, exit_last, exit_among, no_memory_goes, in_fault_goes}
 use Rattle.coins_top.proofs.program.answer_input.Goals as goal
 
 pub returns-in_default-clause-served : goal.returns-in_default-clause-served
@@ -24,8 +23,8 @@ reading-init g c = record {
   within = omega arith;
   room = c.in-Ok.ensures;
   host_later = omega arith;
-  in_later = omega arith;
-  out_later = omega arith;
+  in_steady = refl;
+  out_steady = refl;
 }
 
 pub returns-in_default-read-clause-served : goal.returns-in_default-read-clause-served
@@ -53,12 +52,12 @@ returns-then-count-eq0-clause-served g c = λ bytes before held left_is held_is 
     let left = g.I.Source.left c.read.new.self in
     let nothing : Consumes (g.I.Source.left at.input) left [] = subst (λ (n : ℕ). Consumes (g.I.Source.left at.input) left (take n c.read.new.buf)) c.if-count-eq0.true c.in-Ok-read.ensures.bytes.0 in
     let read = IsRead-nothing (setting_of headers) at.line at.taken from middle a b first (g.I.Source.left at.input) left at.invariant.read nothing in
-    subst (λ (s : Status). AnswersInput s headers bytes before held left (g.O.Sink.written c.answer.new.out) (g.H.Host.held c.answer.new.host) from (g.H.Host.faults c.answer.new.host)) (sym c.status_of.ensures)
+    subst (λ (s : Status). AnswersInput headers s (record { input = bytes; written = before; held = held; faults = from }) (record { input = left; written = g.O.Sink.written c.answer.new.out; held = g.H.Host.held c.answer.new.host; faults = g.H.Host.faults c.answer.new.host })) (sym c.status_of.ensures)
     (exit_last (Unit {0}) c.answer.result headers bytes before held at.line (line_of c.text.result.now) at.taken from middle (g.H.Host.faults c.answer.new.host) a b (g.H.Host.held c.answer.new.host) (g.O.Sink.written c.answer.new.out) first left
     (begins (g.H.Host.held c.args.host.now) (g.O.Sink.written c.args.out.now) held before held_is out_is) left_is read at.invariant.within (ap line_of c.text.ensures) c.answer.ensures.told)
 
-pub returns-then-taken-eq-MOST-clause-served : goal.returns-then-taken-eq-MOST-clause-served
-returns-then-taken-eq-MOST-clause-served g c = λ bytes before held left_is held_is out_is.
+pub returns-then-taken-eq-MAX_INPUT-clause-served : goal.returns-then-taken-eq-MAX_INPUT-clause-served
+returns-then-taken-eq-MAX_INPUT-clause-served g c = λ bytes before held left_is held_is out_is.
     let at = c.reading in
     let headers = c.args.limits.now.headers in
     let count = c.in-Ok-read.count in
@@ -72,7 +71,7 @@ returns-then-taken-eq-MOST-clause-served g c = λ bytes before held left_is held
     let len = c.read.auto.buf in
     let part = length-take c.clamp.result c.deref_mut.result.now in
     let clamped = c.clamp.ensures in
-    let most = c.if-taken-eq-MOST.true in
+    let most = c.if-taken-eq-MAX_INPUT.true in
     let single : count ≡ 1 = omega (arith, some, bound, len, part, clamped, most) in
     let one : length (take count buf) ≡ 1 = length-take-le count buf bound ∙ single in
     exit_long headers bytes before held at.line (take count buf) at.taken from now a (g.H.Host.held at.host) (g.O.Sink.written at.out) first (g.I.Source.left at.input) (g.I.Source.left c.read.new.self)
@@ -93,10 +92,10 @@ returns-in-Err-clause-served g c = λ bytes before held left_is held_is out_is.
     let len = c.read.auto.buf in
     let part = length-take c.clamp.result c.deref_mut.result.now in
     let clamped = c.clamp.ensures in
-    let fewer = c.if-taken-eq-MOST.false in
+    let fewer = c.if-taken-eq-MAX_INPUT.false in
     let before_most = at.invariant.within in
     let within : at.taken + count ≤ 16777216 = omega (arith, bound, len, part, clamped, fewer, before_most) in
-    subst (λ (s : Status). AnswersInput s headers bytes before held left (g.O.Sink.written c.answer_lines.new.out) (g.H.Host.held c.answer_lines.new.host) from (g.H.Host.faults c.answer_lines.new.host)) (sym c.status_of-in-Err.ensures)
+    subst (λ (s : Status). AnswersInput headers s (record { input = bytes; written = before; held = held; faults = from }) (record { input = left; written = g.O.Sink.written c.answer_lines.new.out; held = g.H.Host.held c.answer_lines.new.host; faults = g.H.Host.faults c.answer_lines.new.host })) (sym c.status_of-in-Err.ensures)
     (exit_among c.in-Err.stop headers bytes before held at.line (take count buf) at.taken count from (g.H.Host.faults at.host) (g.H.Host.faults c.answer_lines.new.host) a b (g.H.Host.held c.answer_lines.new.host) (g.O.Sink.written c.answer_lines.new.out)
     first (g.I.Source.left at.input) left (begins (g.H.Host.held c.args.host.now) (g.O.Sink.written c.args.out.now) held before held_is out_is) left_is at.invariant.read c.in-Ok-read.ensures.bytes.0 (length-take-le count buf bound) within c.in-Err.ensures.told)
 
@@ -114,16 +113,14 @@ reading-preserved g c =
     let len = c.read.auto.buf in
     let part = length-take c.clamp.result c.deref_mut.result.now in
     let clamped = c.clamp.ensures in
-    let fewer = c.if-taken-eq-MOST.false in
+    let fewer = c.if-taken-eq-MAX_INPUT.false in
     let before_most = at.invariant.within in
-    let in_before = at.invariant.in_later in
-    let in_after = c.in-Ok-read.ensures.cause.later in
     record {
       read = IsRead-more (setting_of headers) at.line c.answer_lines.new.line (take count buf) at.taken count (g.H.Host.faults c.args.host.now) (g.H.Host.faults at.host) (g.H.Host.faults c.answer_lines.new.host) a b d
           (g.I.Source.left c.args.input.now) (g.I.Source.left at.input) (g.I.Source.left c.read.new.self) at.invariant.read c.in-Ok-read.ensures.bytes.0 (length-take-le count buf bound) said.told said.kept;
       within = omega (arith, bound, len, part, clamped, fewer, before_most);
       room = at.invariant.room;
       host_later = let x = at.invariant.host_later in let y = said.later in omega (arith, x, y);
-      in_later = omega (arith, in_before, in_after);
-      out_later = let x = at.invariant.out_later in let y = said.written in omega (arith, x, y);
+      in_steady = c.in-Ok-read.ensures.cause.kept ∙ at.invariant.in_steady;
+      out_steady = said.steady (λ is. cc) ∙ at.invariant.out_steady;
     }

@@ -1,4 +1,4 @@
-use Rattle.std.proofs.Common.{◌≡◌, ◌≤◌, ◌+◌, ◌-◌, vec_len}
+use Rattle.std.proofs.Common.{◌≡◌, ◌≤◌, ◌-◌, vec_len}
 use Rattle.coins_top.specs.Session.{outside, setting_of}
 use Rattle.coins_top.proofs.Running.{IsRead}
 use Rattle.coins_top.proofs.program.answer_input.Given as goal
@@ -9,8 +9,8 @@ invariant-reading g l = record {
   within : l.taken ≤ 16777216;
   room : vec_len l.room ≡ 65536;
   host_later : g.H.Host.faults l.fn.host ≤ g.H.Host.faults l.host;
-  in_later : g.I.Source.faults l.fn.input ≤ g.I.Source.faults l.input;
-  out_later : g.O.Sink.faults l.fn.out ≤ g.O.Sink.faults l.out;
+  in_steady : g.I.Source.faults l.input ≡ g.I.Source.faults l.fn.input;
+  out_steady : g.O.Sink.faults l.out ≡ g.O.Sink.faults l.fn.out;
 }
 
 abbrev pub decreases-reading : goal.decreases-reading

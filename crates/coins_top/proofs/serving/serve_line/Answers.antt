@@ -1,7 +1,5 @@
-use Rattle.std.proofs.Common.{◌≡◌, ◌≤◌, List, ℕ, Ok, ap, sym, subst, ◌∙◌, arith}
-use Rattle.io_traits.specs.Told.{OnTold}
+use Rattle.std.proofs.Common.{Ok, ap, sym, subst, ◌∙◌}
 use Rattle.coins_top.specs.Session.{setting_of, IsCounted}
-use Rattle.coins_top.specs.FileFolds.{FoldsFile}
 use Rattle.coins_top.proofs.ServingLines.{told_empty, told_refused, told_fold, told_generate, needs_store}
 use Rattle.command_text.specs.declared.line.Line.TheVariants as line
 use Rattle.command_text.specs.declared.line.LineRefused.TheVariants.{UnknownCommand}

@@ -1,7 +1,6 @@
-use Rattle.std.proofs.Common.{refl}
 use Rattle.chain_model.specs.Generated.{chain as generated_chain}
 use Rattle.io_traits.specs.Causes.{Rose}
-use Rattle.coins_top.proofs.ServingLines.{written_all, written_some, written_not, others_stay}
+use Rattle.coins_top.proofs.ServingLines.{written_all}
 use Rattle.coins_top.proofs.serving.write_file.Goals as goal
 
 pub returns-in-Ok-clause-told : goal.returns-in-Ok-clause-told

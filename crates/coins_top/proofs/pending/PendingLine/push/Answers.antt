@@ -1,4 +1,4 @@
-use Rattle.std.proofs.Common.{◌≡◌, ◌≤◌, ◌++◌, ◌-◌, ◌∙◌, ℕ, List, length, take, ap, sym, arith}
+use Rattle.std.proofs.Common.{◌≡◌, ◌≤◌, ◌++◌, ◌-◌, ◌∙◌, ℕ, List, length, take, ap, arith}
 use Rattle.std.specs.Prelude.{min, vec_len}
 use Rattle.coins_top.specs.Session.{kept_of}
 use Rattle.coins_top.proofs.Pieces.{kept-push, pushed}

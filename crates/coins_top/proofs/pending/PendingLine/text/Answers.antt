@@ -1,4 +1,4 @@
-use Rattle.std.proofs.Common.{◌≡◌, List, ℕ, length, sym, ap, ◌∙◌, arith}
+use Rattle.std.proofs.Common.{◌≡◌, length, ap, ◌∙◌, arith}
 use Rattle.command_text.specs.Lines.{without_return}
 use Rattle.coins_top.proofs.Pieces.{without_last_return, without_other, without_none}
 use Rattle.coins_top.proofs.pending.PendingLine.text.Goals as goal

@@ -2,7 +2,7 @@ use Rattle.std.proofs.Common.{rules, ◌≡◌, ◌<◌, ◌+◌, ◌-◌, ◌++
 use Rattle.std.specs.List.{between}
 use Rattle.std.specs.Vec.{with_items}
 use borrow.Rule.Slice.PartMut.{put_mid}
-use Rattle.io_traits.specs.Told.{OnTold-weaker}
+use Rattle.io_traits.proofs.Told.{OnTold-weaker}
 use Rattle.frame_scan.specs.Scan.{Takes, ReadsPlain}
 use Rattle.frame_scan.proofs.Windows.{written, grown_by, kept_by}
 use Rattle.frame_scan.proofs.Scans.{read_takes, nothing_taken}

@@ -1,6 +1,6 @@
 use Rattle.std.proofs.Common.{length}
 use Rattle.frame_scan.specs.Search.{SameFrames, IsRest}
-use Rattle.frame_scan.proofs.search.find_block.Given as goal
+use Rattle.frame_scan.proofs.search.find_frame.Given as goal
 
 abbrev pub invariant-loop-window : goal.invariant-loop-window
 invariant-loop-window l = record {

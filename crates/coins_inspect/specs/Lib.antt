@@ -1,0 +1,5 @@
+pub mod LineAnswers
+pub mod Lines
+pub mod LogReports
+pub mod Names
+pub mod Reports

@@ -3,15 +3,12 @@
 ghost use Rattle.std.specs.Prelude.{◌≡◌, ◌++◌, drop, IfSome};
 
 use anyhow::{Result, bail};
-use base_types::{Hash32, OutPoint, Script, TxOut, hash_twice, put_u32};
+use base_types::{Hash32, MESSAGE_START, OutPoint, Script, TxOut, hash_twice, put_u32};
 use block_codec::{Block, Header, Inputs, Outputs, Stack, Tx, TxIn, Txs, read_block, write_block};
 use std::alloc::{AllocError, Global};
 use std::fs::{self, File};
 use std::io::Write;
 use std::time::Instant;
-
-/// How each frame of a block file begins.
-const MAGIC: [u8; 4] = [0xfa, 0xbf, 0xb5, 0xda];
 
 /// The transactions of a block that is made, the coinbase aside.
 const TRANSACTIONS: u32 = 200;
@@ -71,7 +68,7 @@ pub fn make(rt: &HostRuntime, name: &str, count: u32) -> Result<()> {
         let mut text = Vec::new(rt.alloc());
         write_block(&mut text, &block(rt.alloc(), number)?)?;
         let mut head = Vec::new(rt.alloc());
-        head.extend_from_slice(&MAGIC)?;
+        head.extend_from_slice(&MESSAGE_START)?;
         put_u32(&mut head, u32::try_from(text.len())?)?;
         file.write_all(&head)?;
         file.write_all(&text)?;

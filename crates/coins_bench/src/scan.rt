@@ -1,15 +1,13 @@
 //! Scanning: the time of a scan over false heads of frames beside that of reading the same bytes.
 
 use anyhow::{Result, bail};
+use base_types::MESSAGE_START;
 use frame_scan::Frames;
 use io_traits::{Host, MemHost};
 use std::time::Instant;
 
 /// The file of the host that holds the heads.
 const NAME: &str = "heads.dat";
-
-/// How each frame of a block file begins.
-const MAGIC: [u8; 4] = [0xfa, 0xbf, 0xb5, 0xda];
 
 /// How many bytes are read at once.
 const PIECE: usize = 65_536;
@@ -48,7 +46,7 @@ fn scan(rt: &HostRuntime, host: &mut MemHost) -> Result<()> {
 fn heads(rt: &HostRuntime, count: u32, claim: u32) -> Result<MemHost> {
     let mut bytes = Vec::new(rt.alloc());
     for _ in 0..count {
-        bytes.extend_from_slice(&MAGIC)?;
+        bytes.extend_from_slice(&MESSAGE_START)?;
         bytes.extend_from_slice(&claim.to_le_bytes())?;
     }
     let mut host = MemHost::new(rt.alloc(), &[])?;

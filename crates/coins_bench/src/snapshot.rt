@@ -1,7 +1,7 @@
 //! Snapshot files: the time of reading one beside that of hashing its bytes.
 
 ghost use Rattle.std.specs.Prelude.{◌+◌, ◌≤◌, length, IfOk};
-ghost use Rattle.coin_codec.specs.CoinText.{CoinFits};
+ghost use Rattle.base_types.specs.Coins.{CoinFits};
 
 use anyhow::{Result, bail};
 use base_types::{Coin, Hash32, Script, hash_twice};

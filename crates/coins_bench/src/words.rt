@@ -1,11 +1,12 @@
 //! An outpoint as a few words, which a hash map hashes faster than 36 bytes.
 
-ghost use Rattle.std.specs.Prelude.{◌≡◌, ◌+◌, ◌≤◌, ◌++◌};
+ghost use Rattle.std.specs.Prelude.{◌≡◌, ◌++◌};
 ghost use Rattle.std.proofs.Common.{rules};
 ghost use Rattle.std.specs.Hash as fed;
 ghost use Rattle.std.specs.Cmp.Rules.{hashing};
 
 use base_types::{OutPoint, Salt};
+use coin_index::word;
 use std::hash::{Hash, Hasher};
 
 /// The hash and the index of an outpoint, salted.
@@ -28,22 +29,6 @@ impl Hash for Words {
         self.second.hash(state);
         self.index.hash(state);
     }
-}
-
-// The eight bytes from a place on as a number, the lowest first.
-fn word(bytes: &[u8; 32], at: usize) -> u64
-    requires { at + 8 ≤ 32 }
-{
-    u64::from_le_bytes([
-        bytes[at],
-        bytes[at + 1],
-        bytes[at + 2],
-        bytes[at + 3],
-        bytes[at + 4],
-        bytes[at + 5],
-        bytes[at + 6],
-        bytes[at + 7],
-    ])
 }
 
 impl Words {

@@ -1,6 +1,6 @@
 use Rattle.std.proofs.Common.{sym, ap, is_some, ◌∙◌}
 use Rattle.coins_bench.specs.declared.shelf.Entry.{Entry}
-use Rattle.coin_index.specs.IndexLaws.{found_held}
+use Rattle.coin_index.proofs.IndexLaws.{found_held}
 use Rattle.coins_bench.proofs.shelf.Shelf.find.Goals as goal
 
 pub get-requires : goal.get-requires

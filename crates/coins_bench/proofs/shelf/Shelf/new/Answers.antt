@@ -1,6 +1,6 @@
 use Rattle.std.specs.FinMap as map
 use Rattle.coins_bench.specs.declared.shelf.Entry.{Entry}
-use Rattle.coin_index.specs.IndexLaws.{new_index}
+use Rattle.coin_index.proofs.IndexLaws.{new_index}
 use Rattle.coins_bench.proofs.shelf.Shelf.new.Goals as goal
 
 pub invariant_of-result : goal.invariant_of-result

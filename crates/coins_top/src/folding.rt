@@ -119,7 +119,7 @@ impl Folding {
 fn accept(tree: &mut Tree, block: &HashedBlock) -> Result<Hash32, FoldEnd>
     ensures { HeaderEnds tree.old block.now.header tree.new result }
 {
-    match tree.accept(&block.block().header) {
+    match tree.accept_with_hash(&block.block().header, block.hash()) {
         Ok(hash) => Ok(hash),
         Err(AcceptFault::NoMemory) => Err(FoldEnd::NoMemory),
         Err(AcceptFault::Refused(why)) => Err(refusal(block, Rule::Header(why))),

@@ -52,9 +52,24 @@ impl Tree {
         ensures tree { OnOk result (IsTree self.new.limit self.new.tree) }
     {
         let hash = block_hash(header);
-        match self.judge(header, &hash) {
-            Ok(parent) => match self.add(*header, hash, parent) {
-                Ok(()) => Ok(hash),
+        self.accept_with_hash(header, &hash)
+    }
+
+    /// The same where the header's hash is known.
+    pub fn accept_with_hash(
+        &mut self,
+        header: &Header,
+        hash: &Hash32,
+    ) -> Result<Hash32, AcceptFault>
+        requires { hash.now ≡ hash_of_header header.now }
+        ensures answer { Answers (header_broken self.old.limit self.old.tree header.now) (hash_of_header header.now) result }
+        ensures ok { OnOk result (self.new ≡ after_header self.old header.now) }
+        ensures err { OnErr result (self.new ≡ self.old) }
+        ensures tree { OnOk result (IsTree self.new.limit self.new.tree) }
+    {
+        match self.judge(header, hash) {
+            Ok(parent) => match self.add(*header, *hash, parent) {
+                Ok(()) => Ok(*hash),
                 Err(_) => Err(AcceptFault::NoMemory),
             },
             Err(rule) => Err(AcceptFault::Refused(rule)),

@@ -1,5 +1,6 @@
 pub mod Bytes
 pub mod Codec
+pub mod Codes
 pub mod Coins
 pub mod Flushes
 pub mod Keys

@@ -1,6 +1,7 @@
 //! Outputs and coins.
 
-ghost use Rattle.std.specs.Prelude.{◌≡◌, IfOk};
+ghost use Rattle.std.specs.Prelude.{◌≡◌, ◌<◌, ◌^◌, IfOk};
+ghost use Rattle.base_types.specs.Coins.{height_code as code_of_height};
 
 use crate::script::Script;
 use std::alloc::AllocError;
@@ -28,5 +29,12 @@ impl Coin {
         ensures { IfOk result (λ coin. coin ≡ self.now) }
     {
         self.clone()
+    }
+    /// Twice the height, and one more for a coinbase: how Bitcoin Core writes both (`coins.h`).
+    pub fn height_code(&self) -> u32
+        requires { self.now.height < 2 ^ 31 }
+        ensures { result ≡ code_of_height self.now }
+    {
+        2 * self.height + u32::from(self.coinbase)
     }
 }

@@ -9,7 +9,7 @@ use Rattle.base_types.specs.Keys.{outpoint_cmp}
 use Rattle.base_types.specs.Coins.{Coins}
 use Rattle.base_types.specs.declared.hash.OutPoint.{OutPoint}
 use Rattle.base_types.specs.declared.coin.Coin.{Coin}
-use Rattle.chain_model.specs.Codes.{outpoint_code, coin_code}
+use Rattle.base_types.specs.Codes.{outpoint_code, coin_code}
 
 -- at an outpoint the coin that is to be there, or that none is
 abbrev pub Changes : Type 0

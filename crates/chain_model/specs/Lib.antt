@@ -4,7 +4,6 @@ pub mod Apply
 pub mod BodyRules
 pub mod Changes
 pub mod Choice
-pub mod Codes
 pub mod Coins
 pub mod Fees
 pub mod Folding

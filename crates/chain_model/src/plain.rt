@@ -21,7 +21,7 @@ pub struct Plain {
 impl Model for Plain {
     ghost use Rattle.std.specs.FinMap as finite;
     ghost use Rattle.base_types.specs.Coins.{Coins};
-    ghost use Rattle.chain_model.specs.Codes.{coins_code};
+    ghost use Rattle.base_types.specs.Codes.{coins_code};
 
     ghost Value = { Coins };
 

@@ -4,6 +4,7 @@ use Rattle.std.specs.Ordering.{nat_cmp}
 use Rattle.std.specs.FinMap.{FinMap}
 use Rattle.std.specs.FinMap as map
 use Rattle.std.specs.Coded.{Coded, code_by, coded×, coded_ℕ, coded_bool, coded_list, coded_option}
+use Rattle.base_types.specs.Codes.{outpoint_code, coin_code, salt_code}
 use Rattle.base_types.specs.declared.coin.Coin.{Coin}
 use Rattle.base_types.specs.declared.hash.OutPoint.{OutPoint}
 use Rattle.base_types.specs.declared.program.Salt.{Salt}
@@ -30,21 +31,10 @@ pub record Contents : Type 0 where
 abbrev pub contents : FinMap nat_cmp Entry → List ℕ → ℕ → Salt → Contents
 contents slots changes spare salt = record { slots = slots; changes = changes; spare = spare; salt = salt }
 
-abbrev pub outpoint_code : Coded OutPoint
-outpoint_code = code_by (List ℕ × ℕ) (coded× (coded_list coded_ℕ) coded_ℕ) (λ o. (o.txid.bytes, o.index)) (λ p. record { txid = record { bytes = p.0 }; index = p.1 }) (λ _. refl)
-
-abbrev pub coin_code : Coded Coin
-coin_code =
-    code_by ((ℕ × List ℕ) × (ℕ × Bool)) (coded× (coded× coded_ℕ (coded_list coded_ℕ)) (coded× coded_ℕ coded_bool)) (λ c. ((c.value, c.script), (c.height, c.coinbase)))
-    (λ p. record { value = p.0.0; script = p.0.1; height = p.1.0; coinbase = p.1.1 }) (λ _. refl)
-
 abbrev pub entry_code : Coded Entry
 entry_code =
     code_by ((OutPoint × Option Coin) × (Bool × Bool)) (coded× (coded× outpoint_code (coded_option coin_code)) (coded× coded_bool coded_bool)) (λ e. ((e.key, e.coin), (e.dirty, e.fresh)))
     (λ p. record { key = p.0.0; coin = p.0.1; dirty = p.1.0; fresh = p.1.1 }) (λ _. refl)
-
-abbrev pub salt_code : Coded Salt
-salt_code = code_by (ℕ × ℕ) (coded× coded_ℕ coded_ℕ) (λ s. (s.a, s.b)) (λ p. record { a = p.0; b = p.1 }) (λ _. refl)
 
 abbrev pub contents_code : Coded Contents
 contents_code =

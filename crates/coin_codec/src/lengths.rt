@@ -10,7 +10,6 @@ ghost use Rattle.coin_codec.specs.ScriptForm.{script_form};
 
 use crate::amount::compress;
 use crate::script_form::{SPECIAL_SCRIPTS, short_form};
-use crate::writing::height_code;
 use base_types::{Coin, OutPoint};
 
 // The length of a VARINT.
@@ -45,7 +44,7 @@ pub fn coin_len(coin: &Coin) -> usize
     requires { CoinFits coin.now }
     ensures { result ≡ length (coin_text coin.now) }
 {
-    varint_len(height_code(coin))
+    varint_len(u64::from(coin.height_code()))
         + varint_len(compress(coin.value))
         + script_len(coin.script.as_slice())
 }

@@ -1,7 +1,6 @@
 //! Writing coins.
 
 ghost use Rattle.std.specs.Prelude.{◌≡◌, ◌+◌, ◌^◌, ◌<◌, ◌≤◌, ◌++◌, length, take, vec_len, vec_capacity, IsOk, OnOk, OnErr};
-ghost use Rattle.base_types.specs.Coins.{height_code as code_of_height};
 ghost use Rattle.base_types.specs.Coins.{CoinFits};
 ghost use Rattle.base_types.specs.Parameters.{max_script_size};
 ghost use Rattle.coin_codec.specs.CoinText.{coin_text};
@@ -35,14 +34,6 @@ fn put_script(out: &mut Vec<u8>, script: &[u8]) -> Result<(), AllocError>
     }
 }
 
-// Twice the height, and one more for a coinbase.
-pub(crate) fn height_code(coin: &Coin) -> u64
-    requires { coin.now.height < 2 ^ 31 }
-    ensures { result ≡ code_of_height coin.now }
-{
-    2 * u64::from(coin.height) + u64::from(coin.coinbase)
-}
-
 #[tactic(auto, unfolding(crate::specs::CoinText::coin_text))]
 fn put_coin(out: &mut Vec<u8>, coin: &Coin) -> Result<(), AllocError>
     requires { CoinFits coin.now }
@@ -53,7 +44,7 @@ fn put_coin(out: &mut Vec<u8>, coin: &Coin) -> Result<(), AllocError>
     ensures room { vec_len out.old + length (coin_text coin.now) ≤ vec_capacity out.old → IsOk result }
     ensures capacity { vec_capacity out.old ≤ vec_capacity out.new }
 {
-    put_varint(out, height_code(coin))?;
+    put_varint(out, u64::from(coin.height_code()))?;
     put_varint(out, compress(coin.value))?;
     put_script(out, coin.script.as_slice())
 }

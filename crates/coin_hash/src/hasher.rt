@@ -7,7 +7,6 @@ ghost use Rattle.base_types.specs.Bytes.{compact};
 ghost use Rattle.base_types.specs.Keys.{outpoint_cmp};
 ghost use Rattle.base_types.specs.declared.hash.OutPoint.{OutPoint};
 ghost use Rattle.base_types.specs.declared.coin.Coin.{Coin};
-ghost use Rattle.base_types.specs.Coins.{height_code as code_of};
 ghost use Rattle.base_types.specs.Parameters.{max_script_size};
 ghost use Rattle.coin_hash.specs.CoinHash.{Holds, hash_of, coin_hash};
 
@@ -18,14 +17,6 @@ use sha2::{Digest, Sha256};
 #[derive(Drop)]
 pub struct Hasher {
     state: Sha256,
-}
-
-// Twice the height, and one more for a coinbase.
-fn height_code(coin: &Coin) -> u32
-    requires { coin.now.height < 2 ^ 31 }
-    ensures { result ≡ code_of coin.now }
-{
-    2 * coin.height + u32::from(coin.coinbase)
 }
 
 // Adds the CompactSize of a script's length.
@@ -59,7 +50,7 @@ impl Hasher {
         requires script { length coin.now.script ≤ max_script_size }
         ensures { (coins : List (OutPoint × Coin)) → Holds self.old coins → Holds self.new (coins ++ (key.now, coin.now) ∷ []) }
     {
-        let height = height_code(coin);
+        let height = coin.height_code();
         let script = coin.script.as_slice();
         self.state.update(&key.txid.bytes);
         self.state.update(&key.index.to_le_bytes());

@@ -6,6 +6,7 @@ use Rattle.std.specs.Hash as fed
 use Rattle.std.specs.Hash.DefaultHasher as sip
 use Rattle.std.specs.HashMap.{HashMap, values}
 use Rattle.std.specs.List.{fold, sum_by}
+use Rattle.base_types.specs.Codes.{outpoint_code}
 use Rattle.base_types.specs.declared.program.Salt.{Salt}
 use Rattle.base_types.specs.declared.hash.OutPoint.{OutPoint}
 use Rattle.coin_store.specs.declared.index.IndexKey.{IndexKey}
@@ -31,9 +32,6 @@ abbrev pub vacancies : HashMap IndexKey CoinPlace Salted → ℕ
 vacancies places = sum_by vacancy (values places)
 
 -- ---- codes, by which proofs tell values apart
-
-outpoint_code : Coded OutPoint
-outpoint_code = code_by (List ℕ × ℕ) (coded× (coded_list coded_ℕ) coded_ℕ) (λ o. (o.txid.bytes, o.index)) (λ p. record { txid = record { bytes = p.0 }; index = p.1 }) (λ _. refl)
 
 abbrev Numbers : Type 0
 Numbers = ℕ × ℕ

@@ -8,7 +8,7 @@ use Rattle.base_types.specs.declared.program.Rules.{Rules}
 use Rattle.base_types.specs.contracts.program.Rules as rules
 use Rattle.block_codec.specs.contracts.block.Header as header
 use Rattle.std.specs.FinMap as finite
-use Rattle.chain_model.specs.Codes.{coins_code}
+use Rattle.base_types.specs.Codes.{coins_code}
 use Rattle.chain_model.specs.Tree.{Headers}
 use Rattle.chain_model.specs.Folding.{Folded}
 use Rattle.header_tree.specs.State.{State}

@@ -1,10 +1,11 @@
--- Outpoints and coins as tuples, by which proofs tell values apart that hold maps of coins.
+-- Outpoints, coins and salts as tuples, by which proofs tell values apart that hold them.
 use Rattle.std.specs.Prelude.{ℕ, Bool, List, refl}
 use Rattle.std.specs.Coded.{Coded, code_by, coded×, coded_ℕ, coded_bool, coded_list}
 use Rattle.std.specs.FinMap as finite
 use Rattle.base_types.specs.Coins.{Coins}
 use Rattle.base_types.specs.declared.hash.OutPoint.{OutPoint}
 use Rattle.base_types.specs.declared.coin.Coin.{Coin}
+use Rattle.base_types.specs.declared.program.Salt.{Salt}
 
 abbrev pub outpoint_code : Coded OutPoint
 outpoint_code =
@@ -18,3 +19,6 @@ coin_code =
 
 abbrev pub coins_code : Coded Coins
 coins_code = finite.code outpoint_code coin_code
+
+abbrev pub salt_code : Coded Salt
+salt_code = code_by (ℕ × ℕ) (coded× coded_ℕ coded_ℕ) (λ s. (s.a, s.b)) (λ p. record { a = p.0; b = p.1 }) (λ _. refl)

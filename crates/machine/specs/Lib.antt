@@ -14,3 +14,4 @@ pub mod State
 pub mod Steps
 pub mod Tips
 pub mod Ways
+pub mod Work

@@ -19,10 +19,10 @@ use Rattle.block_codec.specs.Fitting.{IsLength, ScriptFits, OutputFits, StackFit
 use Rattle.std.proofs.Common.{Result, Ok, Err}
 use Rattle.std.specs.Prelude.{IfOk}
 use Rattle.base_types.specs.Codec.{IsBytes}
-use Rattle.block_codec.specs.Reading.{Answers, block_of}
+use Rattle.block_codec.specs.Reading.{Answers, block_of, tx_of}
 use Rattle.block_codec.specs.declared.fault.BlockFault.{BlockFault}
-use Rattle.block_codec.proofs.BlockLaws.{whole_takes}
-use Rattle.block_codec.specs.Text.{every, is_i32, is_i64, is_u32, is_length, is_hash, script_has_text, output_has_text, stack_has_text, input_has_text, tx_has_text, header_has_text, block_has_text, block_text, text_of}
+use Rattle.block_codec.proofs.BlockLaws.{whole_takes, whole_tx_takes}
+use Rattle.block_codec.specs.Text.{every, is_i32, is_i64, is_u32, is_length, is_hash, script_has_text, output_has_text, stack_has_text, input_has_text, tx_has_text, header_has_text, block_has_text, tx_text, block_text, text_of, tx_text_of}
 
 i64_fits : (z : ℤ) → is_i64 z ≡ true → FitsSigned w64 z
 i64_fits (pos n) h = grind (arith, nat_tests, ints)
@@ -194,3 +194,19 @@ is_found bytes (Ok b) fits given =
     let p = whole_takes bytes b fits given in
     text_is b bytes p.0 p.1
 is_found bytes (Err e) fits given = tt
+
+-- ---- the same of a transaction
+
+pub tx_text_from : (t : Tx) (bytes : List ℕ) → tx_text_of t ≡ Some bytes → TxFits t × (bytes ≡ tx_text t)
+tx_text_from t bytes e =
+    let p = some_is (tx_has_text t) (tx_text t) bytes e in
+    (tx_fits t p.0, sym p.1)
+
+pub tx_text_is : (t : Tx) (bytes : List ℕ) → TxFits t → bytes ≡ tx_text t → tx_text_of t ≡ Some bytes
+tx_text_is t bytes fits e = rw (fits_tx t fits) (ap (λ (x : List ℕ). Some x) (sym e))
+
+pub is_found_tx : (bytes : List ℕ) (r : Result Tx BlockFault) → IsBytes bytes → Answers r (tx_of bytes) → IfOk r (λ t. tx_text_of t ≡ Some bytes)
+is_found_tx bytes (Ok t) fits given =
+    let p = whole_tx_takes bytes t fits given in
+    tx_text_is t bytes p.0 p.1
+is_found_tx bytes (Err e) fits given = tt

@@ -23,8 +23,8 @@ pub use fault::{BlockError, BlockFault};
 pub use hashed_block::HashedBlock;
 pub use hashing::{block_hash, hash_of_both, txid, txids, wtxid};
 pub use parameters::{GENESIS, MAX_FRAME_SIZE, MIN_FRAME_SIZE, genesis_hash};
-pub use reading::{read_block, read_header};
-pub use size::{stripped_size, total_size, weight};
+pub use reading::{read_block, read_header, read_tx};
+pub use size::{stripped_size, stripped_tx_size, total_size, total_tx_size, tx_weight, weight};
 pub use witness::{has_witness, is_coinbase};
 pub use writing::{write_block, write_header};
 

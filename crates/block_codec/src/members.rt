@@ -9,7 +9,7 @@ ghost use Rattle.block_codec.specs.Skipping.{Skips};
 use crate::block::{Tx, TxIn};
 use crate::checking::{Faulty, skip_input, skip_output, skip_script, skip_tx};
 use crate::fault::BlockFault;
-use crate::reading::{input_of, output_of, script_of, tx_of};
+use crate::reading::{input_of, output_of, script_of, tx_in};
 use base_types::{Cursor, List, Script, TxOut};
 use std::alloc::{AllocError, Global};
 
@@ -66,7 +66,7 @@ impl Member for Tx {
     ghost at = { tx_at };
 
     fn read(alloc: Global, cursor: &mut Cursor<'_>) -> Result<Self, BlockFault> {
-        tx_of(alloc, cursor)
+        tx_in(alloc, cursor)
     }
 
     fn skip(cursor: &mut Cursor<'_>) -> Result<(), Faulty> {

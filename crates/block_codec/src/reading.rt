@@ -1,12 +1,13 @@
 //! Reading blocks.
 
-ghost use Rattle.std.specs.Prelude.{◌≡◌, ℕ, length, Ok, Err, IfOk, Some};
+ghost use Rattle.std.specs.Prelude.{◌≡◌, ℕ, length, Ok, Err, IfOk, IfErr, Some};
 ghost use Rattle.std.specs.Int.{w32, w64};
 ghost use Rattle.base_types.specs.Reading.{byte_at, bytes_at, number_at, length_at};
 ghost use Rattle.base_types.specs.Codec.{field, renamed};
-ghost use Rattle.block_codec.specs.Reading.{Wrong, wrong, Answers, Reads, ReadsAs, Fails, script_at, output_at, input_at, stack_at, stacks_at, lists_at, ended_at, stripped_at, full_at, flagged_at, tx_at, header_at, block_at, block_of};
-ghost use Rattle.block_codec.specs.Text.{text_of};
+ghost use Rattle.block_codec.specs.Reading.{Wrong, wrong, Answers, Reads, ReadsAs, Fails, script_at, output_at, input_at, stack_at, stacks_at, lists_at, ended_at, stripped_at, full_at, flagged_at, tx_at, header_at, block_at, block_of, tx_of, IsTold};
+ghost use Rattle.block_codec.specs.Text.{text_of, tx_text_of};
 ghost use Rattle.block_codec.specs.declared.block.Block.{Block};
+ghost use Rattle.block_codec.specs.declared.block.Tx.{Tx};
 
 use crate::block::{Block, Header, Inputs, Outputs, Stack, Tx, TxIn};
 use crate::fault::{BlockError, BlockFault};
@@ -25,7 +26,8 @@ const LEAST_INPUT: usize = 41;
 const LEAST_TX: usize = 10;
 
 fn fault_at(cursor: &Cursor<'_>, error: ReadError) -> BlockFault
-    ensures { Fails {Y = ℕ} result (Err (wrong cursor.now error)) }
+    ensures value { Fails {Y = ℕ} result (Err (wrong cursor.now error)) }
+    ensures told { IsTold result }
 {
     match error {
         ReadError::Short => BlockFault::Bad {
@@ -53,7 +55,8 @@ fn u8_of(cursor: &mut Cursor<'_>) -> Result<u8, BlockFault>
 }
 
 fn u32_of(cursor: &mut Cursor<'_>) -> Result<u32, BlockFault>
-    ensures { Reads result cursor.new (field wrong (number_at w32) cursor.old) }
+    ensures value { Reads result cursor.new (field wrong (number_at w32) cursor.old) }
+    ensures told { IfErr result IsTold }
 {
     match cursor.u32() {
         Ok(number) => Ok(number),
@@ -80,7 +83,8 @@ fn length_of(cursor: &mut Cursor<'_>) -> Result<usize, BlockFault>
 }
 
 fn hash_of(cursor: &mut Cursor<'_>) -> Result<Hash32, BlockFault>
-    ensures { ReadsAs (λ h. h.bytes) result cursor.new (field wrong (bytes_at 32) cursor.old) }
+    ensures value { ReadsAs (λ h. h.bytes) result cursor.new (field wrong (bytes_at 32) cursor.old) }
+    ensures told { IfErr result IsTold }
 {
     match cursor.take(32) {
         Ok(taken) => {
@@ -232,7 +236,7 @@ fn flagged_of(alloc: Global, version: u32, cursor: &mut Cursor<'_>) -> Result<Tx
 }
 
 #[tactic(auto, unfolding(crate::specs::Reading::tx_at))]
-pub(crate) fn tx_of(alloc: Global, cursor: &mut Cursor<'_>) -> Result<Tx, BlockFault>
+pub(crate) fn tx_in(alloc: Global, cursor: &mut Cursor<'_>) -> Result<Tx, BlockFault>
     ensures { Reads result cursor.new (tx_at cursor.old) }
 {
     let version = u32_of(cursor)?;
@@ -244,10 +248,15 @@ pub(crate) fn tx_of(alloc: Global, cursor: &mut Cursor<'_>) -> Result<Tx, BlockF
     }
 }
 
-/// The header that stands at the cursor, of 80 bytes, which have no fault but that they end too early.
+/// The header that stands at the cursor, of 80 bytes, which have no fault but that they end too early. It takes no memory,
+/// and never answers that none was left.
 #[tactic(auto, unfolding(crate::specs::Reading::header_at))]
 pub fn read_header(cursor: &mut Cursor<'_>) -> Result<Header, BlockFault>
-    ensures { Reads result cursor.new (header_at cursor.old) }
+    // The header, or that the bytes end too early, and where they end.
+    ensures exact { Reads result cursor.new (header_at cursor.old) }
+
+    // It takes no memory.
+    ensures told { IfErr result IsTold }
 {
     let version = u32_of(cursor)?.cast_signed();
     let prev = hash_of(cursor)?;
@@ -303,4 +312,35 @@ pub fn read_block(alloc: Global, bytes: &[u8]) -> Result<Block, BlockFault>
     ensures exact { Answers result (block_of bytes.now) }
 {
     whole_block(alloc, bytes)
+}
+
+#[tactic(auto, unfolding(crate::specs::Reading::tx_of))]
+fn whole_tx(alloc: Global, bytes: &[u8]) -> Result<Tx, BlockFault>
+    ensures { Answers result (tx_of bytes.now) }
+{
+    let mut cursor = Cursor::new(bytes);
+    let tx = tx_in(alloc, &mut cursor)?;
+    if cursor.is_at_end() {
+        Ok(tx)
+    } else {
+        Err(BlockFault::Bad {
+            error: BlockError::Trailing,
+            at: cursor.place(),
+        })
+    }
+}
+
+/// The transaction whose text the bytes are (`UnserializeTransaction` of Bitcoin Core, with the witness form of BIP 144). The
+/// first fault from left to right is answered with the offset of the field that is wrong, as in a block.
+pub fn read_tx(alloc: Global, bytes: &[u8]) -> Result<Tx, BlockFault>
+    // What is read has that text.
+    ensures found { IfOk result (λ tx. tx_text_of tx ≡ Some bytes.now) }
+
+    // What has the text is read, unless memory runs out.
+    ensures only { (tx : Tx) → tx_text_of tx ≡ Some bytes.now → Answers result (Ok tx) }
+
+    // Which fault is answered, and with which offset.
+    ensures exact { Answers result (tx_of bytes.now) }
+{
+    whole_tx(alloc, bytes)
 }

@@ -116,6 +116,10 @@ fn transactions_have_their_hashes(rt: HostRuntime) -> Result<(), Fail> {
         let [tx] = block.block().txs.as_slice() else {
             return Err("one transaction".into());
         };
+        let alone = read_tx(rt.alloc(), text).ok().ok_or("a transaction")?;
+        assert!(rt; alone == *tx);
+        assert_eq!(rt; total_tx_size(tx), text.len() as u64);
+        assert!(rt; read_tx(rt.alloc(), &bytes).is_err());
         assert_eq!(rt; block.txids(), [txid(tx)].as_slice());
         assert_eq!(rt; *block.hash(), block_hash(&block.block().header));
         assert_eq!(rt; txid(tx).printed().as_slice(), id);

@@ -1,0 +1,5 @@
+use Rattle.std.proofs.Common.{[], ◌∙◌}
+use Rattle.block_codec.proofs.size.total_tx_size.Goals as goal
+
+pub returns : goal.returns
+returns c = c.count.ensures ∙ c.put_tx.ensures [] [] c.new-counter.ensures

@@ -6,8 +6,8 @@ ghost use Rattle.coin_codec.specs.Amount.{amount_code, amount_of, left_of as lef
 
 use base_types::MAX_MONEY;
 
-// The code of an amount in satoshis.
-pub(crate) fn compress(value: u64) -> u64
+/// The code of an amount in satoshis (`CompressAmount` in Bitcoin Core), which is at most 2,100,000,000,000,000.
+pub fn compress_amount(value: u64) -> u64
     requires { value ≤ max_money }
     ensures { result ≡ amount_code value }
 {
@@ -40,8 +40,9 @@ fn left_of(tens: u64, above: u64) -> u64
     }
 }
 
-// The amount of a code, or none where it is above the greatest.
-pub(crate) fn decompress(code: u64) -> Option<u64>
+/// The amount in satoshis of a code (`DecompressAmount` in Bitcoin Core), or none where it is above
+/// 2,100,000,000,000,000.
+pub fn decompress_amount(code: u64) -> Option<u64>
     ensures { result ≡ (if nat_le (amount_of code) max_money then Some (amount_of code) else None) }
 {
     if code == 0 {

@@ -15,11 +15,11 @@ pub enum CoinFault {
     Bad { error: CoinError, at: usize },
 }
 
-// What is wrong with bytes that are no coin, and its offset.
-#[derive(Clone, Copy, Debug)]
-pub(crate) struct BadCoin {
-    pub(crate) error: CoinError,
-    pub(crate) at: usize,
+/// What is wrong with bytes that are no coin or no part of one, and its offset.
+#[derive(Clone, Copy, Debug, PartialEq, Eq)]
+pub struct BadCoin {
+    pub error: CoinError,
+    pub at: usize,
 }
 
 impl From<AllocError> for CoinFault {

@@ -8,7 +8,7 @@ ghost use Rattle.coin_codec.specs.CoinText.{coin_text};
 ghost use Rattle.coin_codec.specs.KeyText.{key_text};
 ghost use Rattle.coin_codec.specs.ScriptForm.{script_form};
 
-use crate::amount::compress;
+use crate::amount::compress_amount;
 use crate::script_form::{SPECIAL_SCRIPTS, short_form};
 use base_types::{Coin, OutPoint};
 
@@ -45,7 +45,7 @@ pub fn coin_len(coin: &Coin) -> usize
     ensures { result ≡ length (coin_text coin.now) }
 {
     varint_len(u64::from(coin.height_code()))
-        + varint_len(compress(coin.value))
+        + varint_len(compress_amount(coin.value))
         + script_len(coin.script.as_slice())
 }
 

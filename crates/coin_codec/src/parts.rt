@@ -8,7 +8,7 @@ ghost use Rattle.coin_codec.specs.CoinText.{coin_text};
 ghost use Rattle.coin_codec.specs.Parts.{coin_in, script_in, HasKept, ReadsPart};
 ghost use Rattle.coin_codec.specs.Reading.{varint_wrong, bytes_wrong, checked_varint_at, is_u32, is_amount_code, is_script_code, amount_at, kept_script_at, raw_script_at, script_at, coin_at, IsNumber, IsFurther, TakesText};
 
-use crate::amount::decompress;
+use crate::amount::decompress_amount;
 use crate::fault::BadCoin;
 use crate::script_form::{SPECIAL_SCRIPTS, kept_len, short_form, whole_script};
 use base_types::{Coin, CoinError, Cursor, MAX_SCRIPT_SIZE, ReadError, Script};
@@ -27,7 +27,7 @@ pub(crate) enum ScriptPart<'a> {
 }
 
 impl ScriptPart<'_> {
-    fn to_script(&self, alloc: Global) -> Result<Script, AllocError>
+    pub(crate) fn to_script(&self, alloc: Global) -> Result<Script, AllocError>
         requires { HasKept self.now }
         ensures { IfOk result (λ script. script ≡ script_in self.now) }
     {
@@ -115,7 +115,7 @@ fn height_code_of(cursor: &mut Cursor<'_>) -> Result<u32, BadCoin>
 }
 
 #[tactic(auto, using(crate::proofs::Further::further_steps), unfolding(crate::specs::Reading::checked_varint_at, crate::specs::Reading::amount_at))]
-fn amount_of(cursor: &mut Cursor<'_>) -> Result<u64, BadCoin>
+pub(crate) fn amount_of(cursor: &mut Cursor<'_>) -> Result<u64, BadCoin>
     ensures value { ReadsPart (λ value. value) result cursor.new (amount_at cursor.old) }
     ensures number { IsNumber cursor.old.rest }
     ensures further { IsFurther cursor.old cursor.new }
@@ -123,7 +123,7 @@ fn amount_of(cursor: &mut Cursor<'_>) -> Result<u64, BadCoin>
     let at = cursor.place();
     let error = CoinError::BadAmount;
     let code = number_of(cursor, error)?;
-    match decompress(code) {
+    match decompress_amount(code) {
         Some(value) => Ok(value),
         None => Err(BadCoin { error, at }),
     }
@@ -172,7 +172,7 @@ fn script_code_of(cursor: &mut Cursor<'_>) -> Result<u64, BadCoin>
 }
 
 #[tactic(auto, using(crate::proofs::Further::further_steps), unfolding(crate::specs::Reading::script_at))]
-fn script_of<'a>(cursor: &mut Cursor<'a>) -> Result<ScriptPart<'a>, BadCoin>
+pub(crate) fn script_of<'a>(cursor: &mut Cursor<'a>) -> Result<ScriptPart<'a>, BadCoin>
     ensures value { ReadsPart script_in result cursor.new (script_at cursor.old) }
     ensures number { IsNumber cursor.old.rest }
     ensures len { IfOk result HasKept }

@@ -1,4 +1,3 @@
-use crate::amount::{compress, decompress};
 use crate::{CoinFault, coin_len, is_coin, key_len, read_coin, read_key, write_coin, write_key};
 use base_types::{Coin, CoinError, Cursor, Hash32, OutPoint, ReadError, Script};
 use std::alloc::Global;
@@ -56,8 +55,8 @@ fn amounts_both_ways(rt: HostRuntime) {
         (2_100_000_000_000_000, 21_000_000),
     ] {
         assert!(rt; amount <= 2_100_000_000_000_000);
-        assert_eq!(rt; compress(amount), code);
-        assert_eq!(rt; decompress(code), Some(amount));
+        assert_eq!(rt; compress_amount(amount), code);
+        assert_eq!(rt; decompress_amount(code), Some(amount));
     }
 }
 

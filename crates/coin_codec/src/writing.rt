@@ -6,7 +6,7 @@ ghost use Rattle.base_types.specs.Parameters.{max_script_size};
 ghost use Rattle.coin_codec.specs.CoinText.{coin_text};
 ghost use Rattle.coin_codec.specs.ScriptForm.{script_form};
 
-use crate::amount::compress;
+use crate::amount::compress_amount;
 use crate::appending::all_or_nothing;
 use crate::script_form::{SPECIAL_SCRIPTS, short_form};
 use base_types::{Coin, put_varint};
@@ -45,7 +45,7 @@ fn put_coin(out: &mut Vec<u8>, coin: &Coin) -> Result<(), AllocError>
     ensures capacity { vec_capacity out.old ≤ vec_capacity out.new }
 {
     put_varint(out, u64::from(coin.height_code()))?;
-    put_varint(out, compress(coin.value))?;
+    put_varint(out, compress_amount(coin.value))?;
     put_script(out, coin.script.as_slice())
 }
 

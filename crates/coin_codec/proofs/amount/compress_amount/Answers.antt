@@ -2,8 +2,8 @@ use Rattle.std.proofs.Common.{◌≡◌, ◌<◌, ◌%◌, sym, ◌∙◌, arith
 use Rattle.coin_codec.proofs.AmountLaws.{few_code}
 use Rattle.coin_codec.specs.Amount.{tens, left}
 use Rattle.coin_codec.proofs.Codes.{taken, coded, nine_parts, zero_code}
-use Rattle.coin_codec.proofs.amount.compress.Goals as goal
-use Rattle.coin_codec.proofs.amount.compress.Goals.{then-loop-tens-test+else-left-eq0, else-loop-tens-test}
+use Rattle.coin_codec.proofs.amount.compress_amount.Goals as goal
+use Rattle.coin_codec.proofs.amount.compress_amount.Goals.{then-loop-tens-test+else-left-eq0, else-loop-tens-test}
 
 pub returns-then-value-eq0 : goal.returns-then-value-eq0
 returns-then-value-eq0 c = sym (zero_code c.args.value c.if-value-eq0.true)

@@ -1,6 +1,6 @@
 use Rattle.std.proofs.Common.{◌≡◌, ◌+◌, ◌-◌, ◌<◌, ◌≤◌}
 use Rattle.coin_codec.specs.Amount.{tens, left}
-use Rattle.coin_codec.proofs.amount.compress.Given as goal
+use Rattle.coin_codec.proofs.amount.compress_amount.Given as goal
 
 abbrev pub invariant-loop-tens : goal.invariant-loop-tens
 invariant-loop-tens l = record {

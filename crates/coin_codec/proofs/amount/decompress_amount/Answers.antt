@@ -2,7 +2,7 @@ use Rattle.std.proofs.Common.{◌≡◌, ◌*◌, ◌∙◌, sym, arith, refl}
 use Rattle.base_types.specs.Parameters.{max_money}
 use Rattle.coin_codec.specs.Amount.{amount_of}
 use Rattle.coin_codec.proofs.Codes.{parts_amount, zero_amount, within, above}
-use Rattle.coin_codec.proofs.amount.decompress.Goals as goal
+use Rattle.coin_codec.proofs.amount.decompress_amount.Goals as goal
 
 pub returns-then-code-eq0 : goal.returns-then-code-eq0
 returns-then-code-eq0 c = within (amount_of c.args.code) 0 max_money (zero_amount c.args.code c.if-code-eq0.true) (omega arith)

@@ -108,7 +108,7 @@ abbrev pub BodiesStand : Headers → Bodies → Type 0
 BodiesStand headers bodies = (hash : Hash32) (block : Block) → get bodies hash ≡ Some block → get headers hash ≡ Some block.header
 
 -- a stored block and others
-first_and_rest : (first : Option Block) (others : Option (List Block)) (blocks : List Block) → and_block first others ≡ Some blocks → (block : Block) × (rest : List Block) × (first ≡ Some block) × (others ≡ Some rest) × (block ∷ rest ≡ blocks)
+pub first_and_rest : (first : Option Block) (others : Option (List Block)) (blocks : List Block) → and_block first others ≡ Some blocks → (block : Block) × (rest : List Block) × (first ≡ Some block) × (others ≡ Some rest) × (block ∷ rest ≡ blocks)
 first_and_rest None others blocks e = absurd cc
 first_and_rest (Some block) None blocks e = absurd cc
 first_and_rest (Some block) (Some rest) blocks e = (block, rest, refl, refl, cc)

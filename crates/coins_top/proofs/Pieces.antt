@@ -6,7 +6,8 @@ use Rattle.std.proofs.lemmas.Bool.{cases_lt, false≢true}
 use Rattle.std.proofs.Math.Seq.{take-append-add}
 use Rattle.std.proofs.lemmas.Bool.Decides.{nat_tests}
 use Rattle.std.proofs.lemmas.List.{length-take-le, append-nil, take_all}
-use Rattle.command_text.specs.Lines.{line_of, command_of, pieces_between, and_byte, without_return}
+use Rattle.coins_top.specs.Serving.{line_asked, refused_as}
+use Rattle.command_text.specs.Lines.{command_of, pieces_between, and_byte, without_return}
 use Rattle.command_text.specs.declared.line.LineRefused.TheVariants.{LineTooLong}
 use Rattle.coins_top.specs.Session.{Asked, asked, onto, all_but_last, last_of, kept_of}
 
@@ -132,9 +133,9 @@ without_return-length [] = omega arith
 without_return-length (byte ∷ []) = omega arith
 without_return-length (byte ∷ next ∷ bytes) = let rest = without_return-length (next ∷ bytes) in omega (arith, rest)
 
-long_line : (text : List ℕ) → 4096 < length text → line_of text ≡ Err LineTooLong
+long_line : (text : List ℕ) → 4096 < length text → line_asked text ≡ Err LineTooLong
 long_line [] long = absurd (omega (arith, long))
-long_line (byte ∷ bytes) long = ap (λ (b : Bool). cond b (Err LineTooLong) (command_of (pieces_between 32 (byte ∷ bytes)))) (is_longer 4096 (length (byte ∷ bytes)) long)
+long_line (byte ∷ bytes) long = ap (refused_as (byte ∷ bytes)) (ap (λ (b : Bool). cond b (Err LineTooLong) (command_of (pieces_between 32 (byte ∷ bytes)))) (is_longer 4096 (length (byte ∷ bytes)) long))
 
 asked_long : (piece : List ℕ) → 4098 ≤ length piece → asked piece ≡ Err LineTooLong
 asked_long piece long = let shorter = without_return-length piece in long_line (without_return piece) (omega (arith, shorter, long))

@@ -6,13 +6,14 @@ use Rattle.std.proofs.lemmas.Bool.{false≢true}
 use Rattle.std.proofs.lemmas.List.{append-nil, map-append, length-map}
 use Rattle.base_types.specs.declared.program.Status.{Status}
 use Rattle.base_types.specs.declared.program.Status.TheVariants.{Done, InFault, NoMemory, OutFault, TooLong}
+use Rattle.coins_top.specs.Serving.{line_asked}
 use Rattle.coins_top.specs.declared.stop.Stop.{Stop}
 use Rattle.coins_top.specs.declared.stop.Stop.TheVariants as stop
 use Rattle.io_traits.specs.Host.{Held}
 use Rattle.io_traits.proofs.Streams.{Consumes-nothing, Consumes-kept, Consumes-then, Consumes-told}
 use Rattle.io_traits.specs.Told.{OnTold}
 use Rattle.io_traits.proofs.Told.{OnTold-same}
-use Rattle.command_text.specs.Lines.{line_of, pieces_between, without_return}
+use Rattle.command_text.specs.Lines.{pieces_between, without_return}
 use Rattle.machine.specs.State.{Setting}
 use Rattle.machine.specs.Courses.{lines_in, ended_in, text_of}
 use Rattle.machine.specs.Answers.{stops_on_input}
@@ -28,7 +29,7 @@ abbrev pub last_in : List ℕ → List ℕ
 last_in taken = last_of (pieces_between 10 taken)
 
 -- the lines of all, where the last has not ended
-pub all_asks : (taken : List ℕ) → map line_of (lines_in taken) ≡ map asked (all_but_last (pieces_between 10 taken)) ++ asked (last_in taken) ∷ []
+pub all_asks : (taken : List ℕ) → map line_asked (lines_in taken) ≡ map asked (all_but_last (pieces_between 10 taken)) ++ asked (last_in taken) ∷ []
 all_asks taken =
     asked_lines (pieces_between 10 taken) ∙ ap (map asked) (sym (all_and_last (pieces_between 10 taken) (some_pieces taken)))
     ∙ map-append asked (all_but_last (pieces_between 10 taken)) (last_in taken ∷ [])
@@ -113,7 +114,7 @@ Begins a held before = a ≡ Some (record { files = held.files; written = before
 
 -- the lines of a first part were served
 pub answers_served : (result : Status) (headers : ℕ) (bytes before taken : List ℕ) (held : Held) (left written : Option (List ℕ)) (hosted : Option Held) (from now : ℕ) (a : Option Outside) (front back : List Asked)
-    → Begins a held before → Takes result bytes taken left → map line_of (lines_in taken) ≡ front ++ back → OnTold a (outside hosted written) (Serves (setting_of headers) front from now)
+    → Begins a held before → Takes result bytes taken left → map line_asked (lines_in taken) ≡ front ++ back → OnTold a (outside hosted written) (Serves (setting_of headers) front from now)
     → (result ≡ Done → back ≡ []) → (stops_on_input result ≡ true → length front ≡ ended_in taken)
     → AnswersInput headers result (record { input = bytes; written = before; held = held; faults = from }) (record { input = left; written = written; held = hosted; faults = now })
 answers_served result headers bytes before taken held left written hosted from now a front back begins takes split told done stops =
@@ -133,7 +134,7 @@ answers_served result headers bytes before taken held left written hosted from n
 
 -- or the run stopped among them
 pub answers_stopped : (result : Status) (headers : ℕ) (bytes before taken : List ℕ) (held : Held) (left written : Option (List ℕ)) (hosted : Option Held) (from now : ℕ) (a : Option Outside) (asks rest : List Asked)
-    → Begins a held before → Takes result bytes taken left → map line_of (lines_in taken) ≡ asks ++ rest → OnTold a (outside hosted written) (Stopped (setting_of headers) asks from now)
+    → Begins a held before → Takes result bytes taken left → map line_asked (lines_in taken) ≡ asks ++ rest → OnTold a (outside hosted written) (Stopped (setting_of headers) asks from now)
     → (result ≡ Done → ⊥) → (stops_on_input result ≡ true → ⊥)
     → AnswersInput headers result (record { input = bytes; written = before; held = held; faults = from }) (record { input = left; written = written; held = hosted; faults = now })
 answers_stopped result headers bytes before taken held left written hosted from now a asks rest begins takes split told not_done goes_on =
@@ -245,7 +246,7 @@ exit_long headers bytes before held line beyond number from now a hosted written
 last_asks : (line taken : List ℕ) → line ≡ kept_of (last_in taken) → asked line ≡ asked (last_in taken)
 last_asks line taken is = ap asked is ∙ asked-kept_of (last_in taken)
 
-whole_asks : (taken : List ℕ) (ask : Asked) → ask ≡ asked (last_in taken) → map line_of (lines_in taken) ≡ (map asked (all_but_last (pieces_between 10 taken)) ++ ask ∷ []) ++ []
+whole_asks : (taken : List ℕ) (ask : Asked) → ask ≡ asked (last_in taken) → map line_asked (lines_in taken) ≡ (map asked (all_but_last (pieces_between 10 taken)) ++ ask ∷ []) ++ []
 whole_asks taken ask is =
     all_asks taken ∙ ap (λ (x : Asked). map asked (all_but_last (pieces_between 10 taken)) ++ x ∷ []) (sym is)
     ∙ sym (append-nil (map asked (all_but_last (pieces_between 10 taken)) ++ ask ∷ []))

@@ -26,7 +26,7 @@ use Rattle.io_traits.specs.Host.{ChangesOnly}
 use Rattle.io_traits.specs.HostRuns.{IsDone}
 use Rattle.machine.specs.State.{Setting, still}
 use Rattle.machine.specs.Steps.{Did, Step, WithBytes, Folds, OthersStay, Generation, generated_reply, generated_bytes, answered, faulted}
-use Rattle.coins_top.specs.Serving.{served, first_now}
+use Rattle.coins_top.specs.Serving.{served, first_now, line_asked, refused_as, reason}
 use Rattle.coins_top.specs.Session.{Asked, IsCounted, setting_of, ServesLine, LineServed, WritesIs, reply_to}
 use Rattle.coins_top.proofs.AnsweredLines.{same_but}
 use Rattle.machine.specs.Answers.{SameBut, file_begun}
@@ -51,13 +51,16 @@ told_refused setting ask why now a is = OnTold-same (λ s t. ServesLine setting 
     let did = answered (first_now setting s.files) (says.Refused why ∷ []) in
     plain_line setting ask now s.files (Some (says.Refused why)) did (subst (λ (one : Asked). Step setting (first_now setting s.files) one did) (sym is) refl) refl refl refl)
 
-pub told_fault : (setting : Setting) (ask : Asked) (fault : LineFault) (result : Result (Option Reply) AllocError) (now : ℕ) (a : Option Held) → Parses ask (Err fault) → result ≡ reply_to fault
-    → OnTold a a (λ s t. LineServed setting ask now now result s.files t.files)
-told_fault setting ask fault.NoMemory result now a parses is =
+pub told_fault : (setting : Setting) (text : List ℕ) (fault : LineFault) (result : Result (Option Reply) AllocError) (now : ℕ) (a : Option Held) → Parses (line_of text) (Err fault) → result ≡ reply_to text fault
+    → OnTold a a (λ s t. LineServed setting (line_asked text) now now result s.files t.files)
+told_fault setting text fault.NoMemory result now a parses is =
+    let ask = line_asked text in
     subst (λ (r : Result (Option Reply) AllocError). OnTold a a (λ s t. LineServed setting ask now now r s.files t.files)) (sym is)
     (OnTold-same (λ s t. SameBut (file_begun ask) s.files t.files) a (λ s. same_but (file_begun ask) s.files s.files refl))
-told_fault setting ask (fault.Refused why) result now a parses is =
-    subst (λ (r : Result (Option Reply) AllocError). OnTold a a (λ s t. LineServed setting ask now now r s.files t.files)) (sym is) (told_refused setting ask why now a (ap served parses))
+told_fault setting text (fault.Refused why) result now a parses is =
+    let ask = line_asked text in
+    subst (λ (r : Result (Option Reply) AllocError). OnTold a a (λ s t. LineServed setting ask now now r s.files t.files)) (sym is)
+    (told_refused setting ask (reason text why) now a (ap (λ (one : Asked). served (refused_as text one)) parses))
 
 -- ---- fold
 

@@ -24,7 +24,7 @@ use Rattle.machine.specs.State.{Setting}
 use Rattle.machine.specs.Steps.{Now, Did, Step, WithBytes, Folds, IsFoldReply, folded_reply, refusal_of, longest_file, generated_reply, generated_bytes, answered}
 use Rattle.machine.specs.Courses.{lines_in, ended_in, replies_of, text_of, host_faults}
 use Rattle.machine.specs.Answers.{IsPrefix, file_begun, SameBut, after_some, next_begun, stops_on_input}
-use Rattle.coins_top.specs.Serving.{served, first_now, ServesAll, Served}
+use Rattle.coins_top.specs.Serving.{served, first_now, ServesAll, Served, line_asked, refused_as}
 use Rattle.coins_top.specs.Session.{Asked, asked, ServesAsks, first_begun}
 use Rattle.coins_top.proofs.AnsweredLines.{text_of-append, host_faults-append, ServesAsks-then, same_but}
 
@@ -95,13 +95,13 @@ ways setting (ask ∷ asks) s =
 
 -- ---- lines by what they ask for
 
-same_asks : (setting : Setting) (now last : Now) (lines : List (List ℕ)) (dids : List Did) → ServesAsks setting now (map line_of lines) dids last → ServesAll setting now lines dids last
+same_asks : (setting : Setting) (now last : Now) (lines : List (List ℕ)) (dids : List Did) → ServesAsks setting now (map line_asked lines) dids last → ServesAll setting now lines dids last
 same_asks setting now last [] [] serves = serves
 same_asks setting now last [] (did ∷ dids) serves = absurd serves
 same_asks setting now last (line ∷ lines) [] serves = absurd serves
 same_asks setting now last (line ∷ lines) (did ∷ dids) serves = (serves.0, same_asks setting did.now last lines dids serves.1)
 
-pub asked_lines : (pieces : List (List ℕ)) → map line_of (map without_return pieces) ≡ map asked pieces
+pub asked_lines : (pieces : List (List ℕ)) → map line_asked (map without_return pieces) ≡ map asked pieces
 asked_lines [] = refl
 asked_lines (p ∷ ps) = ap (λ (l : List Asked). asked p ∷ l) (asked_lines ps)
 
@@ -203,7 +203,12 @@ after_front setting from middle (ask ∷ asks) (did ∷ front) back n serves =
     let more : length (ask ∷ asks) + n ≡ suc (length asks + n) = omega arith in
     ap (λ (m : ℕ). after_some from m (did ∷ front ++ back)) more ∙ after_front setting did.now middle asks front back n serves.1
 
-begun_at : (lines : List (List ℕ)) (front back : List Asked) → map line_of lines ≡ front ++ back → next_begun lines (length front) ≡ first_begun back
+-- a line that is refused begins no file, whatever the reason
+begun_as : (text : List ℕ) (ask : Asked) → file_begun ask ≡ file_begun (refused_as text ask)
+begun_as text (Ok said) = refl
+begun_as text (Err why) = refl
+
+begun_at : (lines : List (List ℕ)) (front back : List Asked) → map line_asked lines ≡ front ++ back → next_begun lines (length front) ≡ first_begun back
 begun_at [] [] [] is = refl
 begun_at [] [] (ask ∷ back) is = absurd (no_more is)
   where
@@ -215,13 +220,13 @@ begun_at [] [] (ask ∷ back) is = absurd (no_more is)
         some_of (x ∷ xs) = true
 begun_at [] (ask ∷ front) back is = absurd (omega (arith, ap length is))
 begun_at (line ∷ lines) [] [] is = absurd (omega (arith, ap length is))
-begun_at (line ∷ lines) [] (ask ∷ back) is = ap file_begun (ap (λ (l : List Asked). unwrap_or (slice_get l 0) ask) is)
+begun_at (line ∷ lines) [] (ask ∷ back) is = begun_as line (line_of line) ∙ ap file_begun (ap (λ (l : List Asked). unwrap_or (slice_get l 0) ask) is)
 begun_at (line ∷ lines) (ask ∷ front) back is = begun_at lines front back (ap (drop 1) is)
 
 -- ---- files after a run that stopped
 
 -- the files as they are after the lines of a first part, and maybe after further ones that are empty
-same_after : (setting : Setting) (taken : List ℕ) (from : Files) (front back : List Asked) (dids more : List Did) (middle last after : Files) → map line_of (lines_in taken) ≡ front ++ back
+same_after : (setting : Setting) (taken : List ℕ) (from : Files) (front back : List Asked) (dids more : List Did) (middle last after : Files) → map line_asked (lines_in taken) ≡ front ++ back
     → ServesAsks setting (first_now setting from) front dids (first_now setting middle) → ServesAsks setting (first_now setting middle) back more (first_now setting last)
     → SameBut (first_begun back) middle after
     → SameBut (next_begun (lines_in taken) (length front + silent back)) (after_some (first_now setting from) (length front + silent back) (dids ++ more)).files after
@@ -231,7 +236,7 @@ same_after setting taken from front back dids more middle last after split serve
     stands : (after_some (first_now setting from) (length front + silent back) (dids ++ more)).files ≡ middle
     stands = ap (λ (now : Now). now.files) (after_front setting (first_now setting from) (first_now setting middle) front dids more (silent back) serves ∙ still_there setting (first_now setting middle) (first_now setting last) back more rest)
 
-    begun : (back : List Asked) → SameBut (first_begun back) middle after → map line_of (lines_in taken) ≡ front ++ back → SameBut (next_begun (lines_in taken) (length front + silent back)) middle after
+    begun : (back : List Asked) → SameBut (first_begun back) middle after → map line_asked (lines_in taken) ≡ front ++ back → SameBut (next_begun (lines_in taken) (length front + silent back)) middle after
     begun [] same is = same_but (next_begun (lines_in taken) (length front + silent [])) middle after same
     begun (ask ∷ back) same is = choose (is_silent ask) refl
       where
@@ -276,7 +281,7 @@ all_answered setting middle last back front dids more wrote same rest part n wit
 -- ---- what is served in the end
 
 pub served_from : (result : Status) (taken wrote : List ℕ) (setting : Setting) (from after : Files) (before now : ℕ) (front back : List Asked) (dids : List Did) (middle : Files)
-    → map line_of (lines_in taken) ≡ front ++ back → ServesAsks setting (first_now setting from) front dids (first_now setting middle) → IsPrefix wrote (text_of dids) → RoseBy (host_faults dids) before now
+    → map line_asked (lines_in taken) ≡ front ++ back → ServesAsks setting (first_now setting from) front dids (first_now setting middle) → IsPrefix wrote (text_of dids) → RoseBy (host_faults dids) before now
     → SameBut (first_begun back) middle after
     → (result ≡ Done → (back ≡ []) × (wrote ≡ text_of dids)) → (stops_on_input result ≡ true → (wrote ≡ text_of dids) × (length front ≡ ended_in taken))
     → Served result taken wrote setting from after before now

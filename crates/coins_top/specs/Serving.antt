@@ -1,5 +1,6 @@
 -- What a run answers while there is no store: the lines that need none are served, and the others are unknown.
-use Rattle.std.specs.Prelude.{◌≡◌, ℕ, true, List, [], ◌∷◌, take, Result, Ok, Err}
+use Rattle.std.specs.Prelude.{◌≡◌, ℕ, Bool, true, ◌||◌, List, [], ◌∷◌, take, cond, codes, eqb, Result, Ok, Err}
+use Rattle.std.specs.List.{starts_with}
 use Rattle.base_types.specs.declared.program.Status.{Status}
 use Rattle.base_types.specs.declared.program.Status.TheVariants as status
 use Rattle.io_traits.specs.Causes.{RoseBy}
@@ -8,12 +9,29 @@ use Rattle.command_text.specs.Lines.{line_of}
 use Rattle.command_text.specs.declared.line.Line.{Line}
 use Rattle.command_text.specs.declared.line.Line.TheVariants as line
 use Rattle.command_text.specs.declared.line.LineRefused.{LineRefused}
-use Rattle.command_text.specs.declared.line.LineRefused.TheVariants.{UnknownCommand}
+use Rattle.command_text.specs.declared.line.LineRefused.TheVariants.{LineTooLong, UnknownCommand}
 use Rattle.machine.specs.SmallStates.{at_start}
 use Rattle.machine.specs.State.{Setting}
 use Rattle.machine.specs.Steps.{Now, Did, Step}
 use Rattle.machine.specs.Courses.{lines_in, ended_in, text_of, host_faults}
 use Rattle.machine.specs.Answers.{IsPrefix, FilesAfter, stops_on_input}
+
+-- the line begins as one of a command that has fields and needs a store
+abbrev pub needs_store : List ℕ → Bool
+needs_store text = starts_with eqb text (codes "headers ") || starts_with eqb text (codes "import ") || starts_with eqb text (codes "gettxout ")
+
+-- such a line is unknown, whatever its fields hold
+abbrev pub reason : List ℕ → LineRefused → LineRefused
+reason text LineTooLong = LineTooLong
+reason text other = cond (needs_store text) UnknownCommand other
+
+abbrev pub refused_as : List ℕ → Result Line LineRefused → Result Line LineRefused
+refused_as text (Ok line) = Ok line
+refused_as text (Err why) = Err (reason text why)
+
+-- what a line asks for
+abbrev pub line_asked : List ℕ → Result Line LineRefused
+line_asked text = refused_as text (line_of text)
 
 -- the lines that need no store
 abbrev pub served_line : Line → Result Line LineRefused
@@ -35,7 +53,7 @@ abbrev pub ServesAll : Setting → Now → List (List ℕ) → List Did → Now 
 ServesAll setting now [] [] last = last ≡ now
 ServesAll setting now [] (did ∷ dids) last = ⊥
 ServesAll setting now (line ∷ lines) [] last = ⊥
-ServesAll setting now (line ∷ lines) (did ∷ dids) last = Step setting now (served (line_of line)) did × ServesAll setting did.now lines dids last
+ServesAll setting now (line ∷ lines) (did ∷ dids) last = Step setting now (served (line_asked line)) did × ServesAll setting did.now lines dids last
 
 -- one way to serve an input
 pub record Service (setting : Setting) (from : Now) (bytes : List ℕ) : Type 0 where

@@ -3,7 +3,7 @@ use Rattle.std.specs.Prelude.{◌≡◌, ◌⊎◌, ◌≤◌, ℕ, List, [], �
 use Rattle.std.specs.FinMap.{insert}
 use Rattle.io_traits.specs.Causes.{Rose, RoseBy}
 use Rattle.io_traits.specs.Host.{Held, Files}
-use Rattle.command_text.specs.Lines.{line_of, pieces_between, without_return}
+use Rattle.command_text.specs.Lines.{pieces_between, without_return}
 use Rattle.command_text.specs.declared.line.Line.{Line}
 use Rattle.command_text.specs.declared.line.Line.TheVariants as line
 use Rattle.std.specs.declared.alloc.AllocError.{AllocError}
@@ -17,7 +17,7 @@ use Rattle.chain_model.specs.Generated.{chain as generated_chain}
 use Rattle.machine.specs.Steps.{Now, Did, Step, OthersStay, Generation, generated_reply, generated_bytes}
 use Rattle.machine.specs.Courses.{text_of, host_faults}
 use Rattle.machine.specs.Answers.{IsPrefix, file_begun, SameBut}
-use Rattle.coins_top.specs.Serving.{served, first_now}
+use Rattle.coins_top.specs.Serving.{served, first_now, line_asked, reason}
 
 -- what a run without a store is set to: so many headers, the cache of a run without options, and the four rules from the
 -- first block on
@@ -43,7 +43,7 @@ IsCounted (Err why) = Unit {0}
 
 -- without the line feed that ends it
 abbrev pub asked : List ℕ → Asked
-asked piece = line_of (without_return piece)
+asked piece = line_asked (without_return piece)
 
 -- the pieces of bytes that stand behind a first part of a line
 abbrev pub onto : List ℕ → List (List ℕ) → List (List ℕ)
@@ -116,9 +116,9 @@ LineWritten number count name before now (Ok reply) s t = WritesIs count (genera
 LineWritten number count name before now (Err error) s t = OthersStay name s t
 
 -- the reply to a line that isn't a command
-abbrev pub reply_to : LineFault → Result (Option Reply) AllocError
-reply_to fault.NoMemory = Err alloc_error
-reply_to (fault.Refused why) = Ok (Some (says.Refused why))
+abbrev pub reply_to : List ℕ → LineFault → Result (Option Reply) AllocError
+reply_to text fault.NoMemory = Err alloc_error
+reply_to text (fault.Refused why) = Ok (Some (says.Refused (reason text why)))
 
 -- lines were served, and all their replies were written
 pub record Serves (setting : Setting) (asks : List Asked) (before now : ℕ) (s t : Outside) : Type 0 where

@@ -3,7 +3,8 @@
 ghost use Rattle.std.specs.Prelude.{◌≡◌, ◌≢◌, ◌<◌, ◌≤◌, ◌∷◌, [], ◌==◌, length, position, Err, OnOk, MatchOption};
 ghost use Rattle.io_traits.specs.Causes.{Rose};
 ghost use Rattle.io_traits.specs.Told.{OnTold};
-ghost use Rattle.command_text.specs.Lines.{line_of, pieces_between};
+ghost use Rattle.command_text.specs.Lines.{pieces_between};
+ghost use Rattle.coins_top.specs.Serving.{line_asked};
 ghost use Rattle.coins_top.specs.declared.stop.Stop.TheVariants.{OutFault};
 ghost use Rattle.coins_top.specs.Session.{setting_of, outside, Answers, ended_asks, kept_of, last_of, pieces_behind};
 
@@ -27,7 +28,7 @@ pub(crate) fn answer<H: Host, O: Sink>(
     ensures written { O.faults out.old ≤ O.faults out.new }
     ensures cause { result ≡ Err OutFault → Rose (O.faults out.old) (O.faults out.new) }
     ensures steady { result ≢ Err OutFault → O.faults out.new ≡ O.faults out.old }
-    ensures told { OnTold (outside (H.held host.old) (O.written out.old)) (outside (H.held host.new) (O.written out.new)) (Answers (setting_of limits.now.headers) (line_of text.now ∷ []) (H.faults host.old) (H.faults host.new) result) }
+    ensures told { OnTold (outside (H.held host.old) (O.written out.old)) (outside (H.held host.new) (O.written out.new)) (Answers (setting_of limits.now.headers) (line_asked text.now ∷ []) (H.faults host.old) (H.faults host.new) result) }
 {
     let Some(reply) = serve(alloc, host, limits, text)? else {
         return Ok(());

@@ -2,7 +2,7 @@
 
 ghost use Rattle.std.specs.Prelude.{◌≡◌, ◌≤◌, Ok};
 ghost use Rattle.io_traits.specs.Told.{OnTold};
-ghost use Rattle.command_text.specs.Lines.{line_of};
+ghost use Rattle.coins_top.specs.Serving.{line_asked, needs_store as needs_a_store, reason as reason_of};
 ghost use Rattle.coins_top.specs.Session.{setting_of, LineServed, LineWritten, IsCounted, reply_to};
 
 use crate::file_fold::fold;
@@ -28,21 +28,40 @@ pub(crate) fn serve<H: Host>(
     text: &[u8],
 ) -> Result<Option<Reply>, AllocError>
     ensures later { H.faults host.old ≤ H.faults host.new }
-    ensures told { OnTold (H.held host.old) (H.held host.new) (λ s t. LineServed (setting_of limits.now.headers) (line_of text.now) (H.faults host.old) (H.faults host.new) result s.files t.files) }
+    ensures told { OnTold (H.held host.old) (H.held host.new) (λ s t. LineServed (setting_of limits.now.headers) (line_asked text.now) (H.faults host.old) (H.faults host.new) result s.files t.files) }
 {
     match parse(alloc, text) {
         Ok(line) => serve_line(alloc, host, limits, &line),
-        Err(fault) => refusal(fault),
+        Err(fault) => refusal(text, fault),
     }
 }
 
-fn refusal(fault: LineFault) -> Result<Option<Reply>, AllocError>
-    ensures { result ≡ reply_to fault }
+fn refusal(text: &[u8], fault: LineFault) -> Result<Option<Reply>, AllocError>
+    ensures { result ≡ reply_to text.now fault }
 {
     match fault {
-        LineFault::Refused(why) => Ok(Some(Reply::Refused(why))),
+        LineFault::Refused(why) => Ok(Some(Reply::Refused(reason(text, why)))),
         LineFault::NoMemory => Err(AllocError),
     }
+}
+
+// A line whose command needs a store is unknown, whatever its fields hold.
+fn reason(text: &[u8], why: LineRefused) -> LineRefused
+    ensures { result ≡ reason_of text.now why }
+{
+    match why {
+        LineRefused::LineTooLong => LineRefused::LineTooLong,
+        _ if needs_store(text) => LineRefused::UnknownCommand,
+        other => other,
+    }
+}
+
+fn needs_store(text: &[u8]) -> bool
+    ensures { result ≡ needs_a_store text.now }
+{
+    text.starts_with(b"headers ")
+        || text.starts_with(b"import ")
+        || text.starts_with(b"gettxout ")
 }
 
 fn serve_line<H: Host>(

@@ -2,10 +2,10 @@ use Rattle.std.proofs.Common.{◌≡◌, ◌∷◌, ◌++◌, [], List, ℕ, tak
 use Rattle.std.specs.Prelude.{Some, None}
 use Rattle.std.specs.Io.KnownBytes.{Appends}
 use Rattle.std.proofs.lemmas.Result.{err_from_is_err_and}
-use Rattle.command_text.specs.Lines.{line_of}
 use Rattle.command_text.specs.Replies.{reply_text}
 use Rattle.io_traits.specs.Streams.{AppendsPart}
 use Rattle.machine.specs.Answers.{SameBut, file_begun}
+use Rattle.coins_top.specs.Serving.{line_asked}
 use Rattle.coins_top.specs.Session.{setting_of, ServesLine, Serves, Stopped}
 use Rattle.coins_top.proofs.AnsweredLines.{outside_host, outside_both, line_stopped, line_silent, line_answered, line_cut, line_unwritten}
 use Rattle.coins_top.proofs.answering.answer.Goals as goal
@@ -13,7 +13,7 @@ use Rattle.coins_top.proofs.answering.answer.Goals as goal
 pub returns-in_err-reply-clause-told : goal.returns-in_err-reply-clause-told
 returns-in_err-reply-clause-told g c =
     let setting = setting_of c.args.limits.now.headers in
-    let ask = line_of c.args.text.now in
+    let ask = line_asked c.args.text.now in
     let before = g.H.Host.faults c.args.host.now in
     let now = g.H.Host.faults c.serve.new.host in
     let p = err_from_is_err_and c.from_residual.result c.from_residual.ensures.1 in
@@ -23,7 +23,7 @@ returns-in_err-reply-clause-told g c =
 pub returns-in_default-clause-told : goal.returns-in_default-clause-told
 returns-in_default-clause-told g c =
     let setting = setting_of c.args.limits.now.headers in
-    let ask = line_of c.args.text.now in
+    let ask = line_asked c.args.text.now in
     let before = g.H.Host.faults c.args.host.now in
     let now = g.H.Host.faults c.serve.new.host in
     let told = rw c.in_default.is at c.in_ok-reply.ensures.told in
@@ -33,7 +33,7 @@ returns-in_default-clause-told g c =
 pub returns-in_err-write_reply-clause-told : goal.returns-in_err-write_reply-clause-told
 returns-in_err-write_reply-clause-told g c =
     let setting = setting_of c.args.limits.now.headers in
-    let ask = line_of c.args.text.now in
+    let ask = line_asked c.args.text.now in
     let before = g.H.Host.faults c.args.host.now in
     let now = g.H.Host.faults c.serve.new.host in
     let told = rw c.in-Some.is at c.in_ok-reply.ensures.told in
@@ -44,7 +44,7 @@ returns-in_err-write_reply-clause-told g c =
 pub returns-in-Ok-clause-told : goal.returns-in-Ok-clause-told
 returns-in-Ok-clause-told g c =
     let setting = setting_of c.args.limits.now.headers in
-    let ask = line_of c.args.text.now in
+    let ask = line_asked c.args.text.now in
     let before = g.H.Host.faults c.args.host.now in
     let now = g.H.Host.faults c.serve.new.host in
     let told = rw c.in-Some.is at c.in_ok-reply.ensures.told in
@@ -56,7 +56,7 @@ returns-in-Ok-clause-told g c =
 pub returns-clause-told : goal.returns-clause-told
 returns-clause-told g c =
     let setting = setting_of c.args.limits.now.headers in
-    let ask = line_of c.args.text.now in
+    let ask = line_asked c.args.text.now in
     let before = g.H.Host.faults c.args.host.now in
     let now = g.H.Host.faults c.serve.new.host in
     let told = rw c.in-Some.is at c.in_ok-reply.ensures.told in

@@ -1,7 +1,8 @@
 use Rattle.std.proofs.Common.{◌≡◌, ◌∷◌, ◌++◌, [], List, ℕ, ap, sym, subst, ◌∙◌, arith}
 use Rattle.std.proofs.lemmas.Result.{err_from_is_err_and}
-use Rattle.command_text.specs.Lines.{line_of, without_return}
+use Rattle.command_text.specs.Lines.{without_return}
 use Rattle.io_traits.specs.Told.{OnTold}
+use Rattle.coins_top.specs.Serving.{line_asked}
 use Rattle.coins_top.specs.Session.{Asked, asked, outside, setting_of, Serves, Stopped, kept_of}
 use Rattle.coins_top.proofs.AnsweredLines.{IsDone, IsDone-more, IsDone-all, IsDone-kept, IsDone-halted, IsDone-stopped}
 use Rattle.coins_top.proofs.answering.answer_lines.Goals as goal
@@ -23,7 +24,7 @@ returns-in_err-answer-clause-told g c =
     let b = outside (g.H.Host.held at.host) (g.O.Sink.written at.out) in
     let d = outside (g.H.Host.held c.answer.new.host) (g.O.Sink.written c.answer.new.out) in
     let p = err_from_is_err_and c.from_residual-in_err-answer.result c.from_residual-in_err-answer.ensures.1 in
-    let ask : line_of c.text.result.now ≡ asked (kept_of (at.line ++ front)) = ap line_of (c.text.ensures ∙ ap without_return c.in_ok-push.ensures) in
+    let ask : line_asked c.text.result.now ≡ asked (kept_of (at.line ++ front)) = ap line_asked (c.text.ensures ∙ ap without_return c.in_ok-push.ensures) in
     let stopped = subst (λ (x : Asked). OnTold b d (Stopped setting (x ∷ []) (g.H.Host.faults at.host) (g.H.Host.faults c.answer.new.host))) ask c.in_err-answer.ensures.told in
     rw (p.1) (IsDone-stopped setting c.args.line.now c.args.bytes.now at.line at.rest.now front behind (g.H.Host.faults c.args.host.now) (g.H.Host.faults at.host) (g.H.Host.faults c.answer.new.host) a b d c.in-Some.ensures.0 at.invariant.done stopped)
 
@@ -38,7 +39,7 @@ loop-front-preserved g c =
     let a = outside (g.H.Host.held c.args.host.now) (g.O.Sink.written c.args.out.now) in
     let b = outside (g.H.Host.held at.host) (g.O.Sink.written at.out) in
     let d = outside (g.H.Host.held c.answer.new.host) (g.O.Sink.written c.answer.new.out) in
-    let ask : line_of c.text.result.now ≡ asked (kept_of (at.line ++ front)) = ap line_of (c.text.ensures ∙ ap without_return c.in_ok-push.ensures) in
+    let ask : line_asked c.text.result.now ≡ asked (kept_of (at.line ++ front)) = ap line_asked (c.text.ensures ∙ ap without_return c.in_ok-push.ensures) in
     let serves = subst (λ (x : Asked). OnTold b d (Serves setting (x ∷ []) (g.H.Host.faults at.host) now)) ask c.in_ok-answer.ensures.told in
     record {
       done = subst (λ (l : List ℕ). IsDone setting c.args.line.now c.args.bytes.now l behind from now a d) (sym c.clear.ensures)

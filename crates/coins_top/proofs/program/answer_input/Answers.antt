@@ -3,7 +3,7 @@ use Rattle.std.specs.Io.KnownBytes.{Consumes}
 use Rattle.std.proofs.lemmas.List.{length-take, length-take-le}
 use Rattle.base_types.specs.declared.program.Status.{Status}
 use Rattle.base_types.specs.declared.program.Status.TheVariants as status
-use Rattle.command_text.specs.Lines.{line_of}
+use Rattle.coins_top.specs.Serving.{line_asked}
 use Rattle.coins_top.specs.Run.{AnswersInput}
 use Rattle.coins_top.specs.Session.{outside, setting_of}
 use Rattle.coins_top.proofs.Running.{IsRead-none, IsRead-more, IsRead-failed, IsRead-nothing, begins, exit_kept, exit_long, exit_last, exit_among, no_memory_goes, in_fault_goes}
@@ -53,8 +53,8 @@ returns-then-count-eq0-clause-served g c = λ bytes before held left_is held_is 
     let nothing : Consumes (g.I.Source.left at.input) left [] = subst (λ (n : ℕ). Consumes (g.I.Source.left at.input) left (take n c.read.new.buf)) c.if-count-eq0.true c.in-Ok-read.ensures.bytes.0 in
     let read = IsRead-nothing (setting_of headers) at.line at.taken from middle a b first (g.I.Source.left at.input) left at.invariant.read nothing in
     subst (λ (s : Status). AnswersInput headers s (record { input = bytes; written = before; held = held; faults = from }) (record { input = left; written = g.O.Sink.written c.answer.new.out; held = g.H.Host.held c.answer.new.host; faults = g.H.Host.faults c.answer.new.host })) (sym c.status_of.ensures)
-    (exit_last (Unit {0}) c.answer.result headers bytes before held at.line (line_of c.text.result.now) at.taken from middle (g.H.Host.faults c.answer.new.host) a b (g.H.Host.held c.answer.new.host) (g.O.Sink.written c.answer.new.out) first left
-    (begins (g.H.Host.held c.args.host.now) (g.O.Sink.written c.args.out.now) held before held_is out_is) left_is read at.invariant.within (ap line_of c.text.ensures) c.answer.ensures.told)
+    (exit_last (Unit {0}) c.answer.result headers bytes before held at.line (line_asked c.text.result.now) at.taken from middle (g.H.Host.faults c.answer.new.host) a b (g.H.Host.held c.answer.new.host) (g.O.Sink.written c.answer.new.out) first left
+    (begins (g.H.Host.held c.args.host.now) (g.O.Sink.written c.args.out.now) held before held_is out_is) left_is read at.invariant.within (ap line_asked c.text.ensures) c.answer.ensures.told)
 
 pub returns-then-taken-eq-MAX_INPUT-clause-served : goal.returns-then-taken-eq-MAX_INPUT-clause-served
 returns-then-taken-eq-MAX_INPUT-clause-served g c = λ bytes before held left_is held_is out_is.

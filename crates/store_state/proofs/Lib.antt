@@ -1,3 +1,4 @@
+pub mod Appending
 mod Breaking
 mod BrokenImages
 mod BrokenReferences
@@ -6,5 +7,6 @@ pub mod OneBlock
 mod OneHeader
 pub mod OtherRules
 mod ReadingSteps
+pub mod Settling
 mod TwoReplayed
 mod Unsettled

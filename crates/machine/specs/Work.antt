@@ -19,13 +19,13 @@ pub record Moment : Type 0 where
   pub faults : ℕ
 
 -- these are the values that disk and host tell
-pub record IsMoment (time : ℕ) (contents : Option Image) (held : Option Held) (faults : ℕ) (moment : Moment) : Type 0 where
-  pub time : moment.time ≡ time
-  pub contents : contents ≡ Some moment.contents
+pub record IsMoment (reading : ℕ) (disk_told : Option Image) (host_told : Option Held) (count : ℕ) (moment : Moment) : Type 0 where
+  pub time : moment.time ≡ reading
+  pub contents : disk_told ≡ Some moment.contents
   pub host : Held
-  pub held : held ≡ Some host
+  pub held : host_told ≡ Some host
   pub files : moment.files ≡ host.files
-  pub faults : moment.faults ≡ faults
+  pub faults : moment.faults ≡ count
 
 abbrev pub call_between : Moment → Moment → List Flushed → List Event → Call
 call_between before after flushes events = record {

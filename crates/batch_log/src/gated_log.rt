@@ -1,6 +1,6 @@
 //! The log itself.
 
-ghost use Rattle.std.specs.Prelude.{◌≡◌, ◌≢◌, ◌⊎◌, ◌+◌, ◌-◌, ◌*◌, ◌^◌, ◌≤◌, ◌<◌, ◌↔◌, ℕ, List, [], ◌∷◌, ◌++◌, length, take, drop, slice_get, Contains, Some, IsTrue, OnOk, OnErr, IfOk, IfErr, MatchResult, All, option_map};
+ghost use Rattle.std.specs.Prelude.{◌≡◌, ◌≢◌, ◌⊎◌, ◌+◌, ◌-◌, ◌*◌, ◌^◌, ◌≤◌, ◌<◌, ◌↔◌, ℕ, List, [], ◌∷◌, ◌++◌, length, take, drop, slice_get, Contains, Some, IsTrue, OnOk, OnErr, IfOk, IfErr, Err, MatchResult, All, option_map};
 ghost use Rattle.disk_model.specs.Disk.{At, Torn, Leaves, Quiet, Only, Told, OthersKept, changed_at, written};
 ghost use Rattle.base_types.specs.declared.fault.StoreFault.TheVariants.{DiskFailed as Failed};
 ghost use Rattle.batch_log.specs.declared.places.Place.{Place};
@@ -129,7 +129,8 @@ impl Log {
         ensures cause { IfErr result (AppendCause self.old (length payload.now) (D.faults disk.old) (D.faults disk.new)) }
         ensures faults { D.faults disk.old ≤ D.faults disk.new }
 
-        // But for a failure of the disk, an error comes before the first device call.
+        // But for a failure of the disk, its count of faults stays, and an error comes before the first device call.
+        ensures steady { result ≢ Err Failed → D.faults disk.new ≡ D.faults disk.old }
         ensures before { IfErr result (λ e. e ≢ Failed → disk.new ≡ disk.old) }
 
         // Where room was made, only the disk may fail, and the room that is left is what the payload didn't take.
@@ -190,7 +191,8 @@ impl Log {
         ensures cause { IfErr result (AppendCause self.old (length (payload_in framed.old)) (D.faults disk.old) (D.faults disk.new)) }
         ensures faults { D.faults disk.old ≤ D.faults disk.new }
 
-        // But for a failure of the disk, an error comes before the first device call.
+        // But for a failure of the disk, its count of faults stays, and an error comes before the first device call.
+        ensures steady { result ≢ Err Failed → D.faults disk.new ≡ D.faults disk.old }
         ensures before { IfErr result (λ e. e ≢ Failed → disk.new ≡ disk.old) }
 
         // The buffer's payload stays.
@@ -217,6 +219,13 @@ impl Log {
             .unwrap();
         self.end += 5 + size;
         Ok(())
+    }
+
+    /// The number of the file.
+    pub fn file(&self) -> u32
+        ensures { result ≡ self.now.file }
+    {
+        self.file
     }
 
     /// Where the payloads lie, in their order.

@@ -1,27 +1,14 @@
 -- A log, and a store, stand as before where a call changed nothing.
 use Rattle.std.specs.Prelude.{◌≡◌, ◌⊎◌, ℕ, List, map, Option, Some, None, refl}
-use Rattle.std.proofs.Common.{subst, sym, ap, ◌∙◌, arith, inl, inr, ⊎_elim}
+use Rattle.std.proofs.Common.{subst, sym, ap, ◌∙◌, inl, inr, ⊎_elim}
 use Rattle.disk_model.specs.Disk.{Image, BothTold, Leaves, Quiet}
 use Rattle.disk_model.proofs.Moments.{IsSinceEarlier, leaves_now}
 use Rattle.base_types.specs.declared.hash.Hash32.{Hash32}
 use Rattle.batch_log.specs.Records.{EndsClosed}
-use Rattle.batch_log.specs.OpenLog.{OpenLog, Stands, Unchanged}
+use Rattle.batch_log.specs.OpenLog.{OpenLog, Stands}
+pub use Rattle.batch_log.proofs.CallerLemmas.{quiet_stands}
+use Rattle.batch_log.proofs.CallerLemmas.{stands_unchanged}
 use Rattle.block_store.specs.OpenStore.{OpenStore, Payloads, Holds, SameStore}
-
--- the log knows the same payloads
-pub stands_unchanged : (contents : Option Image) (left : Image → Type 0) (old new : OpenLog) (payloads : List (List ℕ)) → Unchanged old new → Stands contents left old payloads → Stands contents left new payloads
-stands_unchanged contents left old new payloads same stands =
-    let file = same.file in
-    record {
-      holds = record {
-        image = stands.holds.image;
-        told = stands.holds.told;
-        reads = subst (λ (f : ℕ). EndsClosed payloads (stands.holds.image f)) (sym file) stands.holds.reads;
-        outcomes = λ c now. subst (λ (f : ℕ). EndsClosed payloads (c f)) (sym file) (stands.holds.outcomes c now);
-      };
-      end = same.end ∙ stands.end;
-      places = same.places ∙ stands.places;
-    }
 
 pub holds_same : (contents : Option Image) (left : Image → Type 0) (old new : OpenStore) (payloads : Payloads) → SameStore old new
     → Holds contents left old payloads → Holds contents left new payloads
@@ -36,28 +23,14 @@ holds_same contents left old new payloads same h = record {
 
 module _ {D : Type 0} (time : D → ℕ) (left : D → ℕ → Image → Type 0) (contents : D → Option Image) (earlier : IsSinceEarlier time left)
     (old new : D) (quiet : Quiet time left old new) (same : contents new ≡ contents old) where
-  -- over calls that change nothing a log stands
-  pub quiet_stands : (log : OpenLog) (payloads : List (List ℕ)) → Stands (contents old) (left old (time old)) log payloads → Stands (contents new) (left new (time new)) log payloads
-  quiet_stands log payloads stands =
-      let later = quiet.later in
-      record {
-        holds = record {
-          image = stands.holds.image;
-          told = same ∙ stands.holds.told;
-          reads = stands.holds.reads;
-          outcomes = λ c now. stands.holds.outcomes c (quiet.since (time old) c (omega arith) (earlier new (time old) (time new) c later (omega arith) now));
-        };
-        end = stands.end;
-        places = stands.places;
-      }
-
+  -- over calls that change nothing a store holds what it held
   pub quiet_holds : (store : OpenStore) (payloads : Payloads) → Holds (contents old) (left old (time old)) store payloads
       → Holds (contents new) (left new (time new)) store payloads
   quiet_holds store payloads h = record {
     header_file = h.header_file;
     body_file = h.body_file;
-    headers = quiet_stands store.headers payloads.headers h.headers;
-    bodies = quiet_stands store.bodies payloads.bodies h.bodies;
+    headers = quiet_stands time left contents earlier old new quiet same store.headers payloads.headers h.headers;
+    bodies = quiet_stands time left contents earlier old new quiet same store.bodies payloads.bodies h.bodies;
     lengths = h.lengths;
     hashes = h.hashes;
   }

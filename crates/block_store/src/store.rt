@@ -123,7 +123,8 @@ impl BlockStore {
         ensures cause { IfErr result (AppendCause self.old.headers (80 * length headers.now) (D.faults disk.old) (D.faults disk.new)) }
         ensures faults { D.faults disk.old ≤ D.faults disk.new }
 
-        // But for a failure of the disk, an error comes before the first device call.
+        // But for a failure of the disk, its count of faults stays, and an error comes before the first device call.
+        ensures steady { result ≢ Err Failed → D.faults disk.new ≡ D.faults disk.old }
         ensures before { IfErr result (λ e. e ≢ Failed → disk.new ≡ disk.old) }
 
         // The payload is read back as these headers.
@@ -161,7 +162,8 @@ impl BlockStore {
         ensures cause { IfErr result (AppendCause self.old.bodies (length (body_text hash.now block.now)) (D.faults disk.old) (D.faults disk.new)) }
         ensures faults { D.faults disk.old ≤ D.faults disk.new }
 
-        // But for a failure of the disk, an error comes before the first device call.
+        // But for a failure of the disk, its count of faults stays, and an error comes before the first device call.
+        ensures steady { result ≢ Err Failed → D.faults disk.new ≡ D.faults disk.old }
         ensures before { IfErr result (λ e. e ≢ Failed → disk.new ≡ disk.old) }
 
         // The payload carries the hash, and where the block has a text, it is read back as this block.

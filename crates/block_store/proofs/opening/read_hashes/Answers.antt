@@ -4,7 +4,7 @@ use Rattle.base_types.specs.declared.hash.Hash32.{Hash32}
 use Rattle.batch_log.proofs.ReadLaws.{read_some, read_then, read_wider}
 use Rattle.batch_log.specs.declared.places.Place.{Place}
 use Rattle.disk_model.proofs.Moments.{quiet_then}
-use Rattle.block_store.proofs.StoreLaws.{quiet_stands}
+use Rattle.batch_log.proofs.CallerLemmas.{quiet_stands}
 use Rattle.block_store.proofs.HashSteps.{as_many, place_at, of_each, one_more, all_read, only_failed}
 use Rattle.block_store.proofs.opening.read_hashes.Goals as goal
 

@@ -6,7 +6,7 @@ use Rattle.batch_log.specs.Reading.{ReadAtMost}
 use Rattle.batch_log.proofs.ReadLaws.{read_then}
 use Rattle.block_store.specs.Headers.{is_headers_length}
 use Rattle.block_store.specs.Opening.{InBoth}
-use Rattle.block_store.proofs.StoreLaws.{quiet_stands}
+use Rattle.batch_log.proofs.CallerLemmas.{quiet_stands}
 use Rattle.block_store.proofs.HashSteps.{as_many}
 use Rattle.block_store.proofs.Opened.{same_still, torn_still, two_files, then_quiet, told_then, bodies_found, both_found, lengths_of, read_both, read_first, read_more, given_err}
 use Rattle.block_store.proofs.store.BlockStore.open.Goals as goal

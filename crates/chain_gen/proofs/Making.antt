@@ -5,6 +5,7 @@ use Rattle.std.proofs.lemmas.List.Concat.{flat_map-append, flat_map-cons}
 use Rattle.base_types.specs.declared.hash.Hash32.{Hash32}
 use Rattle.block_codec.specs.declared.block.Block.{Block}
 use Rattle.block_codec.specs.Text.{hash_of_header}
+use Rattle.io_traits.specs.Causes.{HasCause}
 use Rattle.io_traits.specs.Host.{Held, Grows, Spoils, Writes, ChangesOnly}
 use Rattle.io_traits.specs.HostRuns.{IsMade}
 use Rattle.io_traits.proofs.HostRuns.{IsMade-changes, IsMade-spoiled, made_grows}
@@ -118,3 +119,8 @@ write_done b c (Err e) bytes fine told = cc
 pub write_failed : {E : Type 0} (b c : Option Held) (result : Result ⊤ E) (bytes : List ℕ) → is_err result ≡ true → OnTold b c (Writes bytes result) → OnTold b c (λ t u. Spoils t.created t u × (u.created ≡ t.created))
 write_failed b c (Ok _) bytes fails told = cc
 write_failed b c (Err e) bytes fails told = told
+
+-- a call of the host that didn't fail leaves its count of faults
+pub write_kept : {T E : Type 0} (before now : ℕ) (result : Result T E) → is_err result ≡ false → HasCause before now result → now ≡ before
+write_kept before now (Ok _) fine cause = cause.kept
+write_kept before now (Err e) fine cause = cc

@@ -1,6 +1,6 @@
 //! Writing a chain.
 
-ghost use Rattle.std.specs.Prelude.{◌≡◌, ◌≤◌, ℕ, List, [], Option, None, OnErr, IfOk, IsOk, IsErr, IsErrOf};
+ghost use Rattle.std.specs.Prelude.{◌≡◌, ◌≢◌, ◌≤◌, ℕ, List, [], Option, None, Err, OnErr, IfOk, IsOk, IsErr, IsErrOf};
 ghost use Rattle.io_traits.specs.Causes.{Rose};
 ghost use Rattle.io_traits.specs.Told.{OnTold};
 ghost use Rattle.io_traits.specs.Host.{Held, ChangesOnly};
@@ -38,9 +38,10 @@ pub fn generate<H: Host>(
     ensures others { OnTold (H.held host.old) (H.held host.new) (ChangesOnly name.now) }
     ensures idle { OnTold (H.held host.old) (H.held host.new) (λ s t. t.created ≡ None) }
 
-    // The host failed only where it counted that.
+    // The host failed only where it counted that, and with any other answer its count stays.
     ensures later { H.faults host.old ≤ H.faults host.new }
     ensures cause { IsErrOf result fault.HostFailed → Rose (H.faults host.old) (H.faults host.new) }
+    ensures steady { result ≢ Err fault.HostFailed → H.faults host.new ≡ H.faults host.old }
 {
     if host.create(name).is_err() {
         return Err(GenFault::HostFailed);
@@ -64,6 +65,7 @@ fn write_blocks<H: Host>(
     ensures file { (name : List ℕ) (first : Option Held) → OnTold first (H.held host.old) (IsMade name []) → OnTold first (H.held host.new) (Leaves result name (file_text (blocks_of (chain number count)))) }
     ensures later { H.faults host.old ≤ H.faults host.new }
     ensures cause { IsErrOf result fault.HostFailed → Rose (H.faults host.old) (H.faults host.new) }
+    ensures steady { result ≢ Err fault.HostFailed → H.faults host.new ≡ H.faults host.old }
 {
     let mut frame = Vec::new(alloc);
     let mut tip = genesis_hash();

@@ -1,12 +1,12 @@
-use Rattle.std.proofs.Common.{◌≡◌, sym, ◌∙◌, arith}
+use Rattle.std.proofs.Common.{◌≡◌, refl, sym, ◌∙◌, arith}
 use Rattle.std.proofs.lemmas.Result.{err_from_is_err_and}
 use Rattle.io_traits.specs.Host.{Grows, Spoils}
 use Rattle.io_traits.specs.Told.{OnTold}
-use Rattle.chain_gen.proofs.Making.{Making-none, Making-next, failed_tip, failed_file, cut_off, cut_off_by, write_done, write_failed}
+use Rattle.chain_gen.proofs.Making.{Making-none, Making-next, failed_tip, failed_file, cut_off, cut_off_by, write_done, write_failed, write_kept}
 use Rattle.chain_gen.proofs.generation.write_blocks.Goals as goal
 
 pub loop-below-init : goal.loop-below-init
-loop-below-init g c = record { making = Making-none (g.H.Host.held c.args.host.now) c.args.number c.genesis_hash-tip.result c.genesis_hash-tip.ensures; later = omega arith }
+loop-below-init g c = record { making = Making-none (g.H.Host.held c.args.host.now) c.args.number c.genesis_hash-tip.result c.genesis_hash-tip.ensures; steady = refl }
 
 pub returns-in_err-block-clause-tip : goal.returns-in_err-block-clause-tip
 returns-in_err-block-clause-tip g c =
@@ -40,5 +40,5 @@ loop-below-preserved g c =
     record {
       making = Making-next (g.H.Host.held c.args.host.now) b d c.args.number c.loop-below.below c.loop-below.tip c.in_ok-block.hash c.in_ok-block.block c.deref.result.now c.loop-below.invariant.making
           c.in_ok-block.ensures.0 c.in_ok-block.ensures.1 (c.deref.ensures.value ∙ c.in_ok-put_frame.ensures) grown;
-      later = omega (arith, c.loop-below.invariant.later, c.write.ensures.cause.later);
+      steady = write_kept _ _ c.write.result (sym c.is_err.ensures.value ∙ c.if-is_err.false) c.write.ensures.cause ∙ c.loop-below.invariant.steady;
     }

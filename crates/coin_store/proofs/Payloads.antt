@@ -3,14 +3,16 @@ use Rattle.std.specs.Prelude.{◌≡◌, ℕ, ◌+◌, ◌-◌, ◌^◌, ◌<◌
 use Rattle.std.specs.Global.{Vec}
 use Rattle.std.specs.FinMap.{get}
 use Rattle.std.specs.List.{AllByRecursion}
-use Rattle.std.proofs.Common.{sym, ap, subst, ◌∙◌, arith}
-use Rattle.std.proofs.lemmas.List.{length-append, length-drop, drop-append-le, take_all, drop_all}
+use Rattle.std.proofs.Common.{refl, sym, ap, subst, ◌∙◌, arith}
+use borrow.Rule.Slice.PartMut.{put_mid}
+use Rattle.std.proofs.lemmas.List.{length-append, length-take, length-drop, drop-append-le, take_all, drop_all}
 use Rattle.std.proofs.lemmas.List.Elements.{All-contains}
 use Rattle.disk_model.specs.Disk.{Image}
 use Rattle.base_types.specs.declared.hash.OutPoint.{OutPoint}
-use Rattle.batch_log.specs.OpenLog.{OpenLog, Stands, Unchanged, HasRoom}
-use Rattle.batch_log.specs.Records.{body, records, HoldsLog}
+use Rattle.batch_log.specs.OpenLog.{OpenLog, Stands, Unchanged, HasRoomInPlace}
+use Rattle.batch_log.specs.Records.{body, records, payload_in, HoldsLog}
 use Rattle.coin_store.specs.declared.marker.Marker.{Marker}
+use Rattle.coin_store.specs.declared.marker.Marker.TheVariants.{At, Between}
 use Rattle.coin_store.specs.declared.store.CoinStore.{CoinStore}
 use Rattle.coin_store.specs.declared.store.Marked.{Marked}
 use Rattle.coin_store.specs.Base.{base_texts, base_places}
@@ -23,6 +25,7 @@ use Rattle.coin_store.specs.Store.{Knows, Holds, marks, texts}
 use Rattle.coin_store.specs.declared.staging.StagedRow.{StagedRow}
 use Rattle.coin_store.proofs.BatchSteps.{text_push, all_push}
 use Rattle.coin_store.proofs.Noting.{noted_entries, noted_agrees, noted_few, coins_fit, coins_named, coins_push}
+use Rattle.coin_store.proofs.StagedBytes.{end_written, unframed_rows}
 use Rattle.coin_store.proofs.Vacant.{few_same}
 use Rattle.coin_store.proofs.Scanning.{texts_push, marks_push, after_push}
 
@@ -38,22 +41,22 @@ staged_push old new keys payload payloads total rows row text coin capacity inde
     let bytes = s.bytes in
     let front = s.front in
     let head = length (head_text row.key (length (value_text row.coin))) in
-    let reach : vec_len old.staged.bytes ≡ 65 + length (rows_text old.mask rows) = omega (arith, front, old.staged.bytes.ok.0, ap length s.text, length-drop 65 old.staged.bytes.items) in
+    let reach : vec_len old.staged.bytes ≡ 69 + length (rows_text old.mask rows) = omega (arith, front, old.staged.bytes.ok.0, ap length s.text, length-drop 69 old.staged.bytes.items) in
     record {
       entries = subst (λ (i : OpenIndex). All (HasEntry i.places) keys) (sym index) s.entries;
       few_vacant = subst (λ (i : OpenIndex). HasFewVacant i keys) (sym index) s.few_vacant;
       named = all_push (λ row. Contains keys row.key) rows row s.named named;
       fit = all_push RowFits rows row s.fit fits;
       front = omega (arith, ap length text, length-append old.staged.bytes.items (row_text old.mask row), front);
-      text = ap (drop 65) text ∙ drop-append-le 65 old.staged.bytes.items (row_text old.mask row) front ∙ ap (λ (t : List ℕ). t ++ row_text old.mask row) s.text ∙ sym (text_push old.mask rows row)
+      text = ap (drop 69) text ∙ drop-append-le 69 old.staged.bytes.items (row_text old.mask row) front ∙ ap (λ (t : List ℕ). t ++ row_text old.mask row) s.text ∙ sym (text_push old.mask rows row)
           ∙ ap (λ (m : List ℕ). rows_text m (rows ++ row ∷ [])) (sym mask);
       coins = coin ∙ ap (λ (l : List StagedRow). l ++ record { key = row.key; at = vec_len old.staged.bytes + head; len = length (value_text row.coin) } ∷ []) s.coins
-          ∙ ap (λ (n : ℕ). coins_in_rows old.mask 65 rows ++ record { key = row.key; at = n + head; len = length (value_text row.coin) } ∷ []) reach
-          ∙ sym (coins_push old.mask rows row 65) ∙ ap (λ (m : List ℕ). coins_in_rows m 65 (rows ++ row ∷ [])) (sym mask);
+          ∙ ap (λ (n : ℕ). coins_in_rows old.mask 69 rows ++ record { key = row.key; at = n + head; len = length (value_text row.coin) } ∷ []) reach
+          ∙ sym (coins_push old.mask rows row 69) ∙ ap (λ (m : List ℕ). coins_in_rows m 69 (rows ++ row ∷ [])) (sym mask);
       bytes = omega (arith, bytes, capacity);
       short = s.short;
       marked = subst (λ (m : Vec Marked). vec_len m + payloads ≤ vec_capacity m) (sym markers) s.marked;
-      room = subst (λ (l : OpenLog). HasRoom l payloads total) (sym log) s.room;
+      room = subst (λ (l : OpenLog). HasRoomInPlace l payloads total) (sym log) s.room;
     }
 
 all_entries : (index : CoinPlaces) (keys : List OutPoint) (rows : List Row) → All (HasEntry index) keys → AllByRecursion (λ row. Contains keys row.key) rows → AllByRecursion (λ row. HasEntry index row.key) rows
@@ -63,19 +66,25 @@ all_entries index keys (row ∷ rows) entries named = (All-contains (HasEntry in
 -- the outpoints of staged rows have entries
 pub staged_named : (store : CoinStore) (keys : List OutPoint) (payload payloads total : ℕ) (rows : List Row) → IsStaged store keys payload payloads total rows → All (λ (r : StagedRow). HasEntry store.index.places r.key) store.staged.rows.items
 staged_named store keys payload payloads total rows s =
-    subst (λ (l : List StagedRow). All (λ (r : StagedRow). HasEntry store.index.places r.key) l) (sym s.coins) (coins_named store.index.places store.mask rows 65 (all_entries store.index.places keys rows s.entries s.named))
+    subst (λ (l : List StagedRow). All (λ (r : StagedRow). HasEntry store.index.places r.key) l) (sym s.coins) (coins_named store.index.places store.mask rows 69 (all_entries store.index.places keys rows s.entries s.named))
 
 -- and their coins stand in a record of the log that begins at this gate
-pub staged_stand : (store : CoinStore) (keys : List OutPoint) (payload payloads total : ℕ) (rows : List Row) (gate from len : ℕ) → IsStaged store keys payload payloads total rows → from ≤ 65 → len ≡ 65 - from + length (rows_text store.mask rows)
+pub staged_stand : (store : CoinStore) (keys : List OutPoint) (payload payloads total : ℕ) (rows : List Row) (gate from len : ℕ) → IsStaged store keys payload payloads total rows → from ≤ 69 → len ≡ 69 - from + length (rows_text store.mask rows)
     → gate + (5 + len) < 2 ^ 64 → len < 2 ^ 32 → All (StandsFrom gate from) store.staged.rows.items
 staged_stand store keys payload payloads total rows gate from len s begun is far short =
-    subst (All (StandsFrom gate from)) (sym s.coins) (coins_fit gate from store.mask rows 65 begun (omega (arith, is, far, begun)) (omega (arith, is, short)))
+    subst (All (StandsFrom gate from)) (sym s.coins) (coins_fit gate from store.mask rows 69 begun (omega (arith, is, far, begun)) (omega (arith, is, short)))
 
 -- and behind a marker they are the text of its batch
 pub staged_is : (store : CoinStore) (marker : Marker) (keys : List OutPoint) (payload payloads total : ℕ) (rows : List Row) → IsStaged store keys payload payloads total rows
     → staged_text store marker ≡ batch_text store.mask (record { marker = marker; rows = rows })
 unfolding batch_text
 staged_is store marker keys payload payloads total rows s = ap (λ (t : List ℕ). marker_text marker ++ t) s.text
+
+-- each marker has a letter
+pub marker_some : (marker : Marker) → 0 < length (marker_text marker)
+unfolding marker_text
+marker_some (At tip) = omega arith
+marker_some (Between new_tip old_tip) = omega arith
 
 -- ---- one payload more
 
@@ -116,21 +125,37 @@ knows_push old new base batches batch k fits further alone first mask file marke
           ∙ ap (λ (m : List ℕ). get (places_after new.log.file m 0 (base_places new.base m base) (batches ++ batch ∷ [])) q) (sym mask);
     }
 
--- the payload that is written
-pub payload_is : (shown items text : List ℕ) (from : ℕ) → shown ≡ items → drop from items ≡ text → take (length shown - from) (drop from shown) ≡ text
-payload_is shown items text from is there = take_all (length shown - from) (drop from shown) (omega (arith, length-drop from shown)) ∙ ap (drop from) is ∙ there
+-- the payload that is written, in its frame
+pub payload_is : (shown items text : List ℕ) (from : ℕ) → shown ≡ items → payload_in (drop from items) ≡ text → payload_in (take (length shown - from) (drop from shown)) ≡ text
+payload_is shown items text from is there = ap payload_in (take_all (length shown - from) (drop from shown) (omega (arith, length-drop from shown)) ∙ ap (drop from) is) ∙ there
+
+-- written in place and with the closing byte taken away, the rows are as before
+pub rows_kept : (from n : ℕ) (items shown frame after text rows : List ℕ) → shown ≡ items → n ≡ length items → 70 ≤ n → 4 ≤ from → from + length text ≡ 69
+    → payload_in (drop (from - 4) items) ≡ text ++ rows
+    → length frame ≡ length (take (length shown - (from - 4)) (drop (from - 4) shown)) → payload_in frame ≡ payload_in (take (length shown - (from - 4)) (drop (from - 4) shown))
+    → let a = from - 4 in (let now = put_mid a (length shown - a) shown frame in (let written = take n (now ++ drop (length now) items) in (after ≡ take (length written - 1) written → drop 69 after ≡ rows)))
+rows_kept from n items shown frame after text rows is size long room begins there same payload done =
+    let a = from - 4 in
+    let k = length shown - a in
+    let part : length (take k (drop a shown)) ≡ k = omega (arith, length-take k (drop a shown), length-drop a shown) in
+    let within : a ≤ length items = omega (arith, begins, long, size) in
+    let whole = end_written a k n items shown frame is size within refl (same ∙ part) in
+    ap (drop 69) done
+    ∙ ap (λ (l : List ℕ). drop 69 (take (length l - 1) l)) whole
+    ∙ unframed_rows (take a items) frame text rows (omega (arith, length-take a items, within, room, begins)) (omega (arith, same, part, ap length is, size, long, begins, room))
+    (payload ∙ payload_is shown items (text ++ rows) a is there)
 
 -- what the store knows with one batch more
 pub learned : (old new : CoinStore) (base : List (List Row)) (batches : List Batch) (keys : List OutPoint) (payload payloads total : ℕ) (marker : Marker) (rows : List Row) (from : ℕ) → Knows old base batches
-    → IsStaged old keys payload payloads total rows → MarkerFits marker → from + length (marker_text marker) ≡ 65 → new.log.end ≡ old.log.end + (5 + length (batch_text old.mask (record { marker = marker; rows = rows })))
+    → IsStaged old keys payload payloads total rows → MarkerFits marker → from + length (marker_text marker) ≡ 69 → new.log.end ≡ old.log.end + (5 + length (batch_text old.mask (record { marker = marker; rows = rows })))
     → new.base_index ≡ old.base_index → new.base ≡ old.base → new.mask ≡ old.mask → new.log.file ≡ old.log.file → new.markers.items ≡ old.markers.items ++ record { marker = marker; at = old.log.end } ∷ []
     → new.index.places ≡ places_noted old.log.file old.log.end from old.index.places old.staged.rows.items → Knows new base (batches ++ record { marker = marker; rows = rows } ∷ [])
 learned old new base batches keys payload payloads total marker rows from k s marked begins further alone first mask file markers noted =
     let places = places_after old.log.file old.mask 0 (base_places old.base old.mask base) batches in
-    let start : 65 ≡ from + length (marker_text marker) = omega (arith, begins) in
-    let agree : Agrees (places_noted old.log.file old.log.end from old.index.places (coins_in_rows old.mask 65 rows)) (places_after_rows old.log.file old.mask old.log.end (length (marker_text marker)) places rows) =
-    noted_agrees old.log.file old.log.end from old.mask old.index.places places rows 65 (length (marker_text marker)) start s.fit k.places in
-    let is : new.index.places ≡ places_noted old.log.file old.log.end from old.index.places (coins_in_rows old.mask 65 rows) = noted ∙ ap (places_noted old.log.file old.log.end from old.index.places) s.coins in
+    let start : 69 ≡ from + length (marker_text marker) = omega (arith, begins) in
+    let agree : Agrees (places_noted old.log.file old.log.end from old.index.places (coins_in_rows old.mask 69 rows)) (places_after_rows old.log.file old.mask old.log.end (length (marker_text marker)) places rows) =
+    noted_agrees old.log.file old.log.end from old.mask old.index.places places rows 69 (length (marker_text marker)) start s.fit k.places in
+    let is : new.index.places ≡ places_noted old.log.file old.log.end from old.index.places (coins_in_rows old.mask 69 rows) = noted ∙ ap (places_noted old.log.file old.log.end from old.index.places) s.coins in
     knows_push old new base batches (record { marker = marker; rows = rows }) k (record { marker = marked; rows = s.fit }) further alone first mask file markers
     (subst (λ (i : CoinPlaces). Agrees i (places_after_rows old.log.file old.mask old.log.end (length (marker_text marker)) places rows)) (sym is) agree)
 
@@ -152,26 +177,26 @@ module _ (contents : Option Image) (left : Image → Type 0) (old new : CoinStor
 
 pub restaged : (old new : CoinStore) (keys : List OutPoint) (payload payloads before total : ℕ) (rows : List Row) (from : ℕ) → IsStaged old keys payload (1 + payloads) before rows
     → new.index.places ≡ places_noted old.log.file old.log.end from old.index.places old.staged.rows.items → old.index.size ≤ new.index.size
-    → length new.staged.bytes.items ≡ 65 → new.staged.rows.items ≡ [] → new.staged.room ≡ old.staged.room
-    → vec_len new.markers ≡ vec_len old.markers + 1 → vec_capacity old.markers ≤ vec_capacity new.markers → HasRoom new.log payloads total
+    → length new.staged.bytes.items ≡ 69 → new.staged.rows.items ≡ [] → new.staged.room ≡ old.staged.room
+    → vec_len new.markers ≡ vec_len old.markers + 1 → vec_capacity old.markers ≤ vec_capacity new.markers → HasRoomInPlace new.log payloads total
     → IsStaged new keys payload payloads total []
 restaged old new keys payload payloads before total rows from s noted size few none capacity marked_more more room =
     let bytes = s.bytes in
     let marked = s.marked in
     let few_vacant = s.few_vacant in
     let half = few_vacant.few in
-    let is : new.index.places ≡ places_noted old.log.file old.log.end from old.index.places (coins_in_rows old.mask 65 rows) = noted ∙ ap (places_noted old.log.file old.log.end from old.index.places) s.coins in
+    let is : new.index.places ≡ places_noted old.log.file old.log.end from old.index.places (coins_in_rows old.mask 69 rows) = noted ∙ ap (places_noted old.log.file old.log.end from old.index.places) s.coins in
     record {
       entries = λ k d within. subst (λ (p : CoinPlaces). HasEntry p (get_or keys k d)) (sym noted) (noted_entries old.log.file old.log.end from old.index.places old.staged.rows.items (get_or keys k d) (s.entries k d within));
       few_vacant = record {
         others = few_vacant.others;
         few = omega (arith, half, size);
-        all = λ q v. noted_few old.log.file old.log.end from old.mask keys few_vacant.others old.index.places rows 65 s.named few_vacant.all q (subst (λ (p : CoinPlaces). IsVacant (get p q)) is v);
+        all = λ q v. noted_few old.log.file old.log.end from old.mask keys few_vacant.others old.index.places rows 69 s.named few_vacant.all q (subst (λ (p : CoinPlaces). IsVacant (get p q)) is v);
       };
       named = tt;
       fit = tt;
       front = omega (arith, few);
-      text = drop_all 65 new.staged.bytes.items (omega (arith, few));
+      text = drop_all 69 new.staged.bytes.items (omega (arith, few));
       coins = none;
       bytes = omega (arith, bytes, capacity);
       short = s.short;
@@ -182,7 +207,7 @@ restaged old new keys payload payloads before total rows from s noted size few n
 -- what is staged stays where no payload was added and no entry is another
 pub still_staged : (old new : CoinStore) (keys : List OutPoint) (payload payloads total : ℕ) (rows : List Row) → IsStaged old keys payload payloads total rows → Unchanged old.log new.log → new.index.places ≡ old.index.places
     → old.index.size ≤ new.index.size → new.mask ≡ old.mask → vec_len new.markers ≡ vec_len old.markers → vec_capacity old.markers ≤ vec_capacity new.markers
-    → drop 65 new.staged.bytes.items ≡ drop 65 old.staged.bytes.items → vec_len new.staged.bytes ≡ vec_len old.staged.bytes → new.staged.room ≡ old.staged.room → new.staged.rows.items ≡ old.staged.rows.items
+    → drop 69 new.staged.bytes.items ≡ drop 69 old.staged.bytes.items → vec_len new.staged.bytes ≡ vec_len old.staged.bytes → new.staged.room ≡ old.staged.room → new.staged.rows.items ≡ old.staged.rows.items
     → IsStaged new keys payload payloads total rows
 still_staged old new keys payload payloads total rows s log index size mask listed kept text len capacity coins =
     let front = s.front in
@@ -190,7 +215,6 @@ still_staged old new keys payload payloads total rows s log index size mask list
     let marked = s.marked in
     let room = s.room in
     let spare = log.spare in
-    let buffer = log.buffer in
     record {
       entries = subst (λ (m : CoinPlaces). All (HasEntry m) keys) (sym index) s.entries;
       few_vacant = few_same old.index new.index keys index size s.few_vacant;
@@ -198,13 +222,12 @@ still_staged old new keys payload payloads total rows s log index size mask list
       fit = s.fit;
       front = omega (arith, front, len, old.staged.bytes.ok.0, new.staged.bytes.ok.0);
       text = text ∙ s.text ∙ ap (λ (m : List ℕ). rows_text m rows) (sym mask);
-      coins = coins ∙ s.coins ∙ ap (λ (m : List ℕ). coins_in_rows m 65 rows) (sym mask);
+      coins = coins ∙ s.coins ∙ ap (λ (m : List ℕ). coins_in_rows m 69 rows) (sym mask);
       bytes = omega (arith, bytes, capacity);
       short = s.short;
       marked = omega (arith, marked, listed, kept);
       room = record {
         listed = omega (arith, room.listed, spare);
-        buffered = omega (arith, room.buffered, buffer);
         fits = omega (arith, room.fits, log.end, log.limit);
       };
     }

@@ -5,8 +5,6 @@ use Rattle.std.proofs.Common.{sym, ap, subst, ◌∙◌, arith}
 use Rattle.std.proofs.lemmas.List.{length-append, take_all}
 use Rattle.std.proofs.lemmas.List.Sums.{sum_by-append, sum_by-cons, sum_by_more_le}
 use Rattle.std.proofs.lemmas.Option.{slice_get-get_or}
-use Rattle.disk_model.specs.Disk.{Image, Quiet}
-use Rattle.disk_model.proofs.Moments.{IsSinceEarlier}
 use Rattle.base_types.specs.declared.fault.StoreFault.{StoreFault}
 use Rattle.base_types.specs.declared.fault.StoreFault.TheVariants.{NoMemory, DiskFailed, Damaged, Full, CacheFull}
 use Rattle.batch_log.specs.OpenLog.{OpenLog, Stands, places_of}
@@ -26,23 +24,6 @@ use Rattle.coin_store.specs.Reading.{batch_of}
 use Rattle.coin_store.proofs.RowLaws.{some_is}
 use Rattle.coin_store.specs.Store.{marks, texts, FirstBroken, FirstBrokenAs, RecordCause}
 use Rattle.coin_store.proofs.BatchSteps.{all_push}
-
--- ---- the disk stays
-
-pub stands_later : {D : Type 0} (time : D → ℕ) (left : D → ℕ → Image → Type 0) (contents : D → Option Image) → IsSinceEarlier time left → (old new : D) → contents new ≡ contents old → Quiet time left old new
-    → (log : OpenLog) (payloads : List (List ℕ)) → Stands (contents old) (left old (time old)) log payloads → Stands (contents new) (left new (time new)) log payloads
-stands_later time left contents earlier old new same quiet log payloads s =
-    let later = quiet.later in
-    record {
-      holds = record {
-        image = s.holds.image;
-        told = same ∙ s.holds.told;
-        reads = s.holds.reads;
-        outcomes = λ c now. s.holds.outcomes c (quiet.since (time old) c (omega arith) (earlier new (time old) (time new) c later (omega arith) now));
-      };
-      end = s.end;
-      places = s.places;
-    }
 
 -- ---- the payload at a place
 

@@ -2,11 +2,12 @@
 use Rattle.std.specs.Prelude.{⊤, ◌≡◌, true, false, ℕ, ◌+◌, ◌-◌, ◌/◌, ◌%◌, ◌^◌, ◌<◌, ◌≤◌, List, [], ◌∷◌, ◌++◌, length, take, drop, is_ok, if◌then◌else◌, Result, Ok, Err, OnOk, OnErr, refl}
 use Rattle.std.proofs.Common.{ltb, sym, ap, ◌∙◌, arith, inl, inr}
 use Rattle.std.proofs.lemmas.Bool.{cases_Bool, le-ltb, lt-ltb}
-use Rattle.std.proofs.lemmas.List.{append-nil, length-append, take_at, drop_at, take_all, drop-drop}
+use Rattle.std.proofs.lemmas.List.{append-nil, length-append, length-take, length-drop, take_at, drop_at, take_all, drop_all, drop-drop, drop-take, drop-append-le}
 use borrow.Rule.Slice.PartMut.{put_mid}
 use Rattle.base_types.specs.Bytes.{compact, number_text, varint, marked}
 use Rattle.base_types.specs.Obfuscation.{obfuscated}
 use Rattle.base_types.proofs.Obfuscated.{length-obfuscated}
+use Rattle.batch_log.specs.Records.{payload_in}
 use Rattle.coin_codec.specs.KeyText.{key_text, KeyFits}
 use Rattle.base_types.specs.declared.hash.OutPoint.{OutPoint}
 use Rattle.coin_store.proofs.RowLaws.{length-varint}
@@ -120,19 +121,45 @@ row_least mask row fits =
       length-append (marked row.key.index (row.key.index / 128)) ((row.key.index % 128) ∷ []),
     )
 
--- behind the marker the rows stay
-pub rows_stay : (len from : ℕ) (new shown items text : List ℕ) → len ≡ length items → shown ≡ items → length new ≡ length shown → drop from new ≡ text ++ drop 65 shown → from + length text ≡ 65
-    → drop 65 (take len (new ++ drop (length new) items)) ≡ drop 65 items
-rows_stay len from new shown items text size is same there begins =
-    let long : length new ≡ length items = same ∙ ap length is in
-    let whole : take len (new ++ drop (length new) items) ≡ new =
-    take_at new (drop (length new) items) len (omega (arith, long, size)) in
-    ap (drop 65) whole
-    ∙ ap (λ (n : ℕ). drop n new) (sym begins)
-    ∙ sym (drop-drop (length text) from new)
-    ∙ ap (drop (length text)) there
-    ∙ drop_at text (drop 65 shown) (length text) refl
-    ∙ ap (drop 65) is
+-- ---- a payload with room around it
+
+-- it stands between the room for its length and the closing byte
+pub framed_text : (begins : ℕ) (items text : List ℕ) → 4 ≤ begins → begins ≤ length items → drop begins items ≡ text → payload_in (drop (begins - 4) (items ++ 0 ∷ [])) ≡ text
+framed_text begins items text room within there =
+    let all = items ++ 0 ∷ [] in
+    let frame = drop (begins - 4) all in
+    let from : begins - 4 + 4 ≡ begins = omega (arith, room) in
+    let rest : drop 4 frame ≡ drop begins items ++ 0 ∷ [] =
+    drop-drop 4 (begins - 4) all ∙ ap (λ (n : ℕ). drop n all) from ∙ drop-append-le begins items (0 ∷ []) within in
+    let size : length (drop begins items) ≡ length frame - 5 = omega (arith, room, within, length-drop (begins - 4) all, length-append items (0 ∷ []), length-drop begins items) in
+    ap (take (length frame - 5)) rest ∙ take_at (drop begins items) (0 ∷ []) (length frame - 5) size ∙ there
+
+-- the end of the bytes is written over
+pub end_written : (a k n : ℕ) (items shown frame : List ℕ) → shown ≡ items → n ≡ length items → a ≤ length items → k ≡ length shown - a → length frame ≡ k
+    → take n (put_mid a k shown frame ++ drop (length (put_mid a k shown frame)) items) ≡ take a items ++ frame
+end_written a k n items shown frame is size within rest same =
+    let long = ap length is in
+    let now : put_mid a k shown frame ≡ take a items ++ frame =
+    ap (λ (l : List ℕ). take a shown ++ (frame ++ l)) (drop_all k (drop a shown) (omega (arith, rest, length-drop a shown)))
+    ∙ ap (λ (l : List ℕ). take a shown ++ l) (append-nil frame)
+    ∙ ap (λ (l : List ℕ). take a l ++ frame) is in
+    let whole : length (put_mid a k shown frame) ≡ n =
+    omega (arith, ap length now, length-append (take a items) frame, length-take a items, within, rest, same, size, long) in
+    take_at (put_mid a k shown frame) (drop (length (put_mid a k shown frame)) items) n whole ∙ now
+
+-- without the closing byte the rows are those of the payload
+pub unframed_rows : (front frame text rows : List ℕ) → length front + 4 + length text ≡ 69 → 5 ≤ length frame → payload_in frame ≡ text ++ rows
+    → drop 69 (take (length (front ++ frame) - 1) (front ++ frame)) ≡ rows
+unframed_rows front frame text rows begins long is =
+    let all = front ++ frame in
+    let start = length front + 4 in
+    let n : length all - 1 ≡ start + (length frame - 5) = omega (arith, long, length-append front frame) in
+    let behind : drop start all ≡ drop 4 frame = sym (drop-drop 4 (length front) all) ∙ ap (drop 4) (drop_at front frame (length front) refl) in
+    ap (λ (m : ℕ). drop m (take (length all - 1) all)) (sym begins)
+    ∙ ap (λ (m : ℕ). drop (start + length text) (take m all)) n
+    ∙ sym (drop-drop (length text) start (take (start + (length frame - 5)) all))
+    ∙ ap (drop (length text)) (drop-take start (length frame - 5) all ∙ ap (take (length frame - 5)) behind ∙ is)
+    ∙ drop_at text rows (length text) refl
 
 -- one more is listed where it was pushed
 pub pushed : {A E : Type 0} (result : Result ⊤ E) (v : ⊤) (old new : List A) (x : A) → result ≡ Ok v → new ≡ (if is_ok result then old ++ x ∷ [] else old) → new ≡ old ++ x ∷ []

@@ -5,29 +5,17 @@ use Rattle.std.proofs.Common.{sym, ap, subst, ◌∙◌, arith}
 use Rattle.std.proofs.lemmas.List.{length-drop}
 use Rattle.disk_model.specs.Disk.{Image}
 use Rattle.base_types.specs.declared.hash.OutPoint.{OutPoint}
-use Rattle.batch_log.specs.OpenLog.{OpenLog, Stands, Unchanged}
-use Rattle.batch_log.specs.Records.{records, EndsClosed, HoldsLog}
+use Rattle.batch_log.specs.OpenLog.{Stands}
+use Rattle.batch_log.specs.Records.{records, HoldsLog}
+use Rattle.batch_log.proofs.CallerLemmas.{stands_unchanged}
 use Rattle.coin_store.specs.declared.store.CoinStore.{CoinStore}
 use Rattle.coin_store.specs.Base.{base_texts, base_places}
 use Rattle.coin_store.specs.Batches.{Row, Batch, row_text, rows_text}
 use Rattle.coin_store.specs.OpenIndex.{OpenIndex}
 use Rattle.coin_store.specs.Places.{places_after}
+use Rattle.coin_store.specs.Staged.{front_len}
 use Rattle.coin_store.specs.Staging.{IsStaged, SameRows}
 use Rattle.coin_store.specs.Store.{Knows, Holds, marks, texts}
-
-pub stands_unchanged : (contents : Option Image) (left : Image → Type 0) (old new : OpenLog) (payloads : List (List ℕ)) → Unchanged old new → Stands contents left old payloads → Stands contents left new payloads
-stands_unchanged contents left old new payloads same stands =
-    let file = same.file in
-    record {
-      holds = record {
-        image = stands.holds.image;
-        told = stands.holds.told;
-        reads = subst (λ (f : ℕ). EndsClosed payloads (stands.holds.image f)) (sym file) stands.holds.reads;
-        outcomes = λ c now. subst (λ (f : ℕ). EndsClosed payloads (c f)) (sym file) (stands.holds.outcomes c now);
-      };
-      end = same.end ∙ stands.end;
-      places = same.places ∙ stands.places;
-    }
 
 pub knows_same : (old new : CoinStore) (base : List (List Row)) (batches : List Batch) → SameRows old new → Knows old base batches → Knows new base batches
 knows_same old new base batches same k = record {
@@ -59,4 +47,4 @@ pub row_fits : (store : CoinStore) (keys : List OutPoint) (payload payloads tota
 row_fits store keys payload payloads total rows row s fits =
     let front = s.front in
     let bytes = s.bytes in
-    omega (arith, front, bytes, fits, store.staged.bytes.ok.0, ap length s.text, length-drop 65 store.staged.bytes.items)
+    omega (arith, front, bytes, fits, store.staged.bytes.ok.0, ap length s.text, length-drop front_len store.staged.bytes.items)

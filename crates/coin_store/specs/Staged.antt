@@ -6,6 +6,11 @@ use Rattle.coin_store.specs.Batches.{Row, value_text, head_text, row_text}
 use Rattle.coin_store.specs.Places.{CoinPlaces, live}
 use Rattle.coin_store.specs.declared.staging.StagedRow.{StagedRow}
 
+-- the bytes before the staged rows: 4 for the length of their payload in its record, and 65, in which the text of each
+-- marker fits
+abbrev pub front_len : ℕ
+front_len = 69
+
 -- there is an entry for an outpoint, with a place or with room for one
 abbrev pub HasEntry : CoinPlaces → OutPoint → Type 0
 HasEntry index key = IsSome (get index key)

@@ -62,6 +62,14 @@ pub record Holds (contents : Option Image) (left : Image → Type 0) (store : Co
   pub base_stands : (file : ℕ) → store.base ≡ Some file → HoldsLog contents left file (base_texts store.mask base)
   pub apart : store.base ≢ Some store.log.file
 
+-- a store is opened: it has the rows of the base and the batches that the logs of its two files had
+pub record OpensAs (coin_file : ℕ) (base_file : Option ℕ) (mask : List ℕ) (before : Image) (contents : Option Image) (left : Image → Type 0) (store : CoinStore) : Type 0 where
+  pub base : List (List Row)
+  pub batches : List Batch
+  pub base_log : IsBase mask base_file before base
+  pub coin_log : log (before coin_file) ≡ Ok (texts mask batches)
+  pub holds : base_file ≢ Some coin_file → Holds contents left store base batches
+
 -- what the store was opened with
 pub record IsOpened (file : ℕ) (base : Option ℕ) (limit : ℕ) (mask : List ℕ) (start : Hash32) (salt : Salt) (store : CoinStore) : Type 0 where
   pub file_is : store.log.file ≡ file

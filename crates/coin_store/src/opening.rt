@@ -31,14 +31,12 @@ use std::alloc::Global;
 fn read_record<D: Disk>(
     disk: &mut D,
     log: &Log,
-    file: u32,
     kind: Kind,
     place: Place,
     mask: &Mask,
     index: &mut Index,
     payload: &mut [u8],
 ) -> Result<Option<Marker>, StoreFault>
-    requires named { log.now.file ≡ file }
     requires listed { Contains log.now.places place }
     requires whole { length payload.old ≡ place.len }
     requires short { place.at + (5 + place.len) < 2 ^ 64 }
@@ -52,10 +50,11 @@ fn read_record<D: Disk>(
     ensures read { ReadAtMost log.now.file place.len (D.bytes_read disk.old) (D.bytes_read disk.new) }
     ensures salt { index.new.salt ≡ index.old.salt }
 {
-    if let Err(fault) = log.read(disk, place, payload) {
-        return Err(fault);
-    }
-    let gate = Gate { file, at: place.at };
+    log.read(disk, place, payload)?;
+    let gate = Gate {
+        file: log.file(),
+        at: place.at,
+    };
     match read_payload(payload, kind, gate, mask, index) {
         Ok(marker) => Ok(marker),
         Err(RowFault::NoMemory) => Err(StoreFault::NoMemory),
@@ -86,21 +85,19 @@ fn read_log<D: Disk>(
     alloc: Global,
     disk: &mut D,
     log: &Log,
-    file: u32,
     kind: Kind,
     mask: &Mask,
     index: &mut Index,
 ) -> Result<Vec<Marked>, StoreFault>
-    requires named { log.now.file ≡ file }
     ensures ok { (payloads : List (List ℕ)) → Stands (D.contents disk.old) (D.left_since disk.old (D.time disk.old)) log.now payloads
-        → IfOk result (λ markers. HasPayloads kind file mask.now payloads index.old.places index.new.places markers.items) }
+        → IfOk result (λ markers. HasPayloads kind log.now.file mask.now payloads index.old.places index.new.places markers.items) }
     ensures damaged { (payloads : List (List ℕ)) → Stands (D.contents disk.old) (D.left_since disk.old (D.time disk.old)) log.now payloads
         → IfErr result (IsDamagedAt kind mask.now payloads) }
-    ensures cause { IfErr result (OpenCause file (D.faults disk.old) (D.faults disk.new)) }
+    ensures cause { IfErr result (OpenCause log.now.file (D.faults disk.old) (D.faults disk.new)) }
     ensures faults { D.faults disk.old ≤ D.faults disk.new }
     ensures contents { D.contents disk.new ≡ D.contents disk.old }
     ensures quiet { Quiet D.time D.left_since disk.old disk.new }
-    ensures read { ReadAtMost file (sum_by (λ (p : Place). p.len) log.now.places) (D.bytes_read disk.old) (D.bytes_read disk.new) }
+    ensures read { ReadAtMost log.now.file (sum_by (λ (p : Place). p.len) log.now.places) (D.bytes_read disk.old) (D.bytes_read disk.new) }
     ensures salt { index.new.salt ≡ index.old.salt }
 {
     let mut markers = Vec::new(alloc);
@@ -109,16 +106,9 @@ fn read_log<D: Disk>(
     for i in 0..places.len() {
         let place = places[i];
         payload.clear();
-        let Ok(()) = payload.resize(place.len as usize, 0) else {
-            return Err(StoreFault::NoMemory);
-        };
-        let marker = match read_record(disk, log, file, kind, place, mask, index, &mut payload) {
-            Ok(marker) => marker,
-            Err(fault) => return Err(fault),
-        };
-        if let Err(fault) = keep_marker(&mut markers, marker, place.at) {
-            return Err(fault);
-        }
+        payload.resize(place.len as usize, 0)?;
+        let marker = read_record(disk, log, kind, place, mask, index, &mut payload)?;
+        keep_marker(&mut markers, marker, place.at)?;
     }
     Ok(markers)
 }
@@ -158,14 +148,9 @@ pub fn open_log<D: Disk>(
     ensures read { (m : ℕ → List ℕ) → D.contents disk.old ≡ Some m → ReadAtMost file (log_reads (m file)) (D.bytes_read disk.old) (D.bytes_read disk.new) }
     ensures salt { index.new.salt ≡ index.old.salt }
 {
-    let log = match Log::open(alloc, disk, file, limits) {
-        Ok(log) => log,
-        Err(fault) => return Err(fault),
-    };
-    match read_log(alloc, disk, &log, file, kind, mask, index) {
-        Ok(markers) => Ok(ReadLog { log, markers }),
-        Err(fault) => Err(fault),
-    }
+    let log = Log::open(alloc, disk, file, limits)?;
+    let markers = read_log(alloc, disk, &log, kind, mask, index)?;
+    Ok(ReadLog { log, markers })
 }
 
 /// Opens the log of the base file, if one is named, and keeps the places of its coins in an index without places. After
@@ -198,8 +183,6 @@ pub fn open_base<D: Disk>(
     let Some(file) = file else {
         return Ok(());
     };
-    match open_log(alloc, disk, file, Kind::Base, limits, mask, index) {
-        Ok(_) => Ok(()),
-        Err(fault) => Err(fault),
-    }
+    open_log(alloc, disk, file, Kind::Base, limits, mask, index)?;
+    Ok(())
 }

@@ -1,12 +1,14 @@
 //! The payload that is to come: the place of its marker, and then its rows.
 
-ghost use Rattle.std.specs.Prelude.{◌≡◌, ℕ, ◌+◌, ◌*◌, ◌^◌, ◌<◌, ◌≤◌, List, [], ◌∷◌, ◌++◌, length, drop, vec_len, vec_capacity, IfOk, OnOk, OnErr};
+ghost use Rattle.std.specs.Prelude.{◌≡◌, ℕ, ◌+◌, ◌*◌, ◌-◌, ◌^◌, ◌<◌, ◌≤◌, List, [], ◌∷◌, ◌++◌, length, take, drop, vec_len, vec_capacity, IfOk, OnOk, OnErr};
 ghost use Rattle.std.specs.Option.{option_copied};
+ghost use Rattle.batch_log.specs.Records.{payload_in};
 ghost use Rattle.batch_log.specs.declared.places.Place.{Place};
 ghost use Rattle.base_types.specs.Bytes.{compact};
 ghost use Rattle.base_types.specs.Obfuscation.{obfuscated};
 ghost use Rattle.coin_codec.specs.KeyText.{KeyFits};
 ghost use Rattle.coin_store.specs.Batches.{head_text, marker_text, row_text, value_text, ValueFits, MarkerFits};
+ghost use Rattle.coin_store.specs.Staged.{front_len};
 
 use crate::batch::{AT, BETWEEN};
 use crate::marker::Marker;
@@ -16,8 +18,14 @@ use batch_log::Log;
 use coin_codec::{coin_len, key_len, write_coin, write_key};
 use std::alloc::{AllocError, Global};
 
-/// The bytes before the staged rows, in which the text of each marker fits.
-pub const FRONT: usize = 65;
+/// The bytes before a payload in which an append puts its length.
+pub const LENGTH_ROOM: usize = 4;
+
+/// The bytes in which the text of each marker fits.
+const MARKER_ROOM: usize = 65;
+
+/// The bytes before the staged rows: room for the length of their payload, and for its marker.
+const FRONT: usize = LENGTH_ROOM + MARKER_ROOM;
 
 /// The least length of a row.
 const ROW_LEN: usize = 35;
@@ -34,7 +42,7 @@ pub struct StagedRow {
 /// byte, and for each 35 of them, which are the least row, 56 to know a row by.
 #[derive(Drop)]
 pub struct StagedRows {
-    // The place of a marker, and then the text of the rows.
+    // Room for a length and a marker, and then the text of the rows.
     pub bytes: Vec<u8>,
     pub rows: Vec<StagedRow>,
     pub room: usize,
@@ -65,9 +73,9 @@ impl StagedRows {
 
     /// Leaves no rows, and makes room for a marker and a payload. After an error the rows and their room are as before.
     pub fn make_room(&mut self, alloc: Global, payload: u32) -> Result<(), AllocError>
-        ensures front { OnOk result (length self.new.bytes.items ≡ 65) }
+        ensures front { OnOk result (length self.new.bytes.items ≡ front_len) }
         ensures none { OnOk result (self.new.rows.items ≡ []) }
-        ensures room { OnOk result (65 + payload ≤ self.new.room) }
+        ensures room { OnOk result (front_len + payload ≤ self.new.room) }
         ensures err { OnErr result (self.new ≡ self.old) }
     {
         let room = FRONT + payload as usize;
@@ -80,8 +88,8 @@ impl StagedRows {
 
     /// Leaves no rows. The room stays.
     pub fn clear(&mut self)
-        requires { 65 ≤ self.old.room }
-        ensures front { length self.new.bytes.items ≡ 65 }
+        requires { front_len ≤ self.old.room }
+        ensures front { length self.new.bytes.items ≡ front_len }
         ensures none { self.new.rows.items ≡ [] }
         ensures room { self.new.room ≡ self.old.room }
     {
@@ -110,6 +118,36 @@ impl StagedRows {
         };
         self.rows.push(row).unwrap();
     }
+
+    /// Puts a marker before the rows, and a byte behind them for the gate that an append closes. Answers where the payload
+    /// begins, before which there is room for its length.
+    pub fn frame(&mut self, marker: &Marker) -> usize
+        requires front { front_len ≤ length self.old.bytes.items }
+        requires room { vec_len self.old.bytes < self.old.room }
+        ensures text { payload_in (drop (result - 4) self.new.bytes.items) ≡ marker_text marker.now ++ drop front_len self.old.bytes.items }
+        ensures begins { result + length (marker_text marker.now) ≡ front_len }
+        ensures len { vec_len self.new.bytes ≡ vec_len self.old.bytes + 1 }
+        ensures length_room { 4 ≤ result }
+        ensures fits { MarkerFits marker.now }
+        ensures rows { self.new.rows ≡ self.old.rows }
+        ensures room { self.new.room ≡ self.old.room }
+    {
+        let begins = put_marker(&mut self.bytes, marker);
+        self.bytes.push(0).unwrap();
+        begins
+    }
+
+    /// Takes away the byte behind the rows.
+    pub fn unframe(&mut self)
+        requires { 35 * vec_len self.old.rows < vec_len self.old.bytes }
+        ensures bytes { self.new.bytes.items ≡ take (length self.old.bytes.items - 1) self.old.bytes.items }
+        ensures len { vec_len self.new.bytes ≡ vec_len self.old.bytes - 1 }
+        ensures rows { self.new.rows ≡ self.old.rows }
+        ensures room { self.new.room ≡ self.old.room }
+    {
+        let len = self.bytes.len() - 1;
+        self.bytes.truncate(len);
+    }
 }
 
 fn put_at(bytes: &mut [u8], at: usize, text: &[u8])
@@ -121,9 +159,10 @@ fn put_at(bytes: &mut [u8], at: usize, text: &[u8])
 
 #[tactic(auto, unfolding(crate::specs::Batches::marker_text))]
 fn write_marker(bytes: &mut [u8], marker: &Marker) -> usize
-    requires { 65 ≤ length bytes.old }
-    ensures text { drop result bytes.new ≡ marker_text marker.now ++ drop 65 bytes.old }
-    ensures begins { result + length (marker_text marker.now) ≡ 65 }
+    requires { front_len ≤ length bytes.old }
+    ensures text { drop result bytes.new ≡ marker_text marker.now ++ drop front_len bytes.old }
+    ensures begins { result + length (marker_text marker.now) ≡ front_len }
+    ensures room { 4 ≤ result }
     ensures fits { MarkerFits marker.now }
 {
     match marker {
@@ -135,19 +174,19 @@ fn write_marker(bytes: &mut [u8], marker: &Marker) -> usize
         Marker::Between { new_tip, old_tip } => {
             put_at(bytes, FRONT - 32, &old_tip.bytes);
             put_at(bytes, FRONT - 64, &new_tip.bytes);
-            put_at(bytes, FRONT - 65, &[BETWEEN]);
-            FRONT - 65
+            put_at(bytes, FRONT - MARKER_ROOM, &[BETWEEN]);
+            FRONT - MARKER_ROOM
         }
     }
 }
 
-/// Puts the text of a marker right before the staged rows, and answers where it begins.
-pub fn put_marker(staged: &mut Vec<u8>, marker: &Marker) -> usize
-    requires { 65 ≤ length staged.old.items }
-    ensures text { drop result staged.new.items ≡ marker_text marker.now ++ drop 65 staged.old.items }
-    ensures begins { result + length (marker_text marker.now) ≡ 65 }
+// Puts the text of a marker right before the staged rows, and answers where it begins.
+fn put_marker(staged: &mut Vec<u8>, marker: &Marker) -> usize
+    requires { front_len ≤ length staged.old.items }
+    ensures text { drop result staged.new.items ≡ marker_text marker.now ++ drop front_len staged.old.items }
+    ensures begins { result + length (marker_text marker.now) ≡ front_len }
+    ensures room { 4 ≤ result }
     ensures fits { MarkerFits marker.now }
-    ensures rows { drop 65 staged.new.items ≡ drop 65 staged.old.items }
     ensures len { vec_len staged.new ≡ vec_len staged.old }
     ensures capacity { vec_capacity staged.new ≡ vec_capacity staged.old }
 {

@@ -17,7 +17,7 @@ ghost use Rattle.coin_store.specs.KeyOrder.{key_order};
 ghost use Rattle.coin_store.specs.Batches.{Batch, Row, row_text, marker_text, batch_text, ValueFits, RowFits, MarkerFits};
 ghost use Rattle.coin_store.specs.Base.{IsBase, base_coins, rows_after};
 ghost use Rattle.coin_store.specs.Places.{live};
-ghost use Rattle.coin_store.specs.Staged.{HasEntry, StandsFrom, places_noted};
+ghost use Rattle.coin_store.specs.Staged.{HasEntry, StandsFrom, front_len, places_noted};
 
 use crate::batch::{Gate, note_rows};
 use crate::index::Index;
@@ -27,9 +27,10 @@ use crate::marker::Marker;
 use crate::opening::{ReadLog, open_base, open_log};
 use crate::places::CoinPlace;
 use crate::row::Mask;
-use crate::staging::{FRONT, StagedRows, last_gate, put_marker};
+use crate::secrets::Secrets;
+use crate::staging::{LENGTH_ROOM, StagedRows, last_gate};
 use crate::view::StoreView;
-use base_types::{Coin, Hash32, Keys, Limits, OutPoint, Salt, StoreFault};
+use base_types::{Coin, Hash32, Keys, Limits, OutPoint, StoreFault};
 use batch_log::Log;
 use disk_model::Disk;
 use std::alloc::Global;
@@ -46,8 +47,6 @@ pub struct Marked {
 #[derive(Drop)]
 pub struct CoinStore {
     log: Log,
-    // The number of the log's file.
-    file: u32,
     // The number of the base file, if there is one.
     base: Option<u32>,
     mask: Mask,
@@ -58,18 +57,17 @@ pub struct CoinStore {
     base_index: Index,
     staged: StagedRows,
     alloc: Global,
-    ghost named: { file ≡ log.file },
 }
 
 impl CoinStore {
     ghost use Rattle.coin_store.specs.Files.{IsOneOf, IsTiny, InFiles, OthersKeptBut, FilesCause, store_reads, ReadWithin};
-    ghost use Rattle.coin_store.specs.Store.{Knows, Holds, IsOpened, DamageIn, marks, texts, last_marker, marker_after, as_pair};
+    ghost use Rattle.coin_store.specs.Store.{Knows, Holds, OpensAs, IsOpened, DamageIn, marks, texts, last_marker, marker_after, as_pair};
     ghost use Rattle.coin_store.specs.Staging.{IsStaged, IsReady, SameStore, SameRows, staged_text};
     ghost use Rattle.coin_store.specs.Viewing.{coins_seen};
 
     /// Opens the store in a coin file, on the base file if one is named: reads their logs once, that of the base first, and
     /// keeps the markers and the place of each coin. The rows of the coin file overrule those of the base. With no payload
-    /// in the coin file the marker is `At` the start. The coins of rows are obfuscated with the key. `Damaged` names the gate
+    /// in the coin file the marker is `At` the start. The coins of rows are obfuscated with the key of the secrets. `Damaged` names the gate
     /// where a log is damaged, or that of the first payload that isn't rows with coins to its end, in the base file, or a
     /// marker and rows to its end, in the coin file.
     pub fn open<D: Disk>(
@@ -79,15 +77,13 @@ impl CoinStore {
         base_file: Option<u32>,
         start: &Hash32,
         limits: &Limits,
-        salt: &Salt,
-        key: Mask,
+        secrets: &Secrets,
     ) -> Result<CoinStore, StoreFault>
         requires limit { limits.now.file_bytes ≤ 2 ^ 63 }
         ensures ok { (m : ℕ → List ℕ) → D.contents disk.old ≡ Some m
-            → IfOk result (λ s. (base : List (List Row)) × (batches : List Batch) × IsBase key base_file m base × (log_of (m coin_file) ≡ Ok (texts key batches))
-            × (base_file ≢ Some coin_file → Holds (D.contents disk.new) (D.left_since disk.new (D.time disk.new)) s base batches)) }
-        ensures opened { IfOk result (IsOpened coin_file base_file limits.now.file_bytes key start.now salt.now) }
-        ensures damaged { (m : ℕ → List ℕ) → D.contents disk.old ≡ Some m → IfErr result (DamageIn key base_file coin_file m) }
+            → IfOk result (OpensAs coin_file base_file secrets.now.key m (D.contents disk.new) (D.left_since disk.new (D.time disk.new))) }
+        ensures opened { IfOk result (IsOpened coin_file base_file limits.now.file_bytes secrets.now.key start.now secrets.now.salt) }
+        ensures damaged { (m : ℕ → List ℕ) → D.contents disk.old ≡ Some m → IfErr result (DamageIn secrets.now.key base_file coin_file m) }
         ensures cause { IfErr result (FilesCause (IsOneOf base_file coin_file) (D.faults disk.old) (D.faults disk.new)) }
         ensures faults { D.faults disk.old ≤ D.faults disk.new }
 
@@ -107,36 +103,31 @@ impl CoinStore {
         // It reads at most five bytes more than each file has.
         ensures read { (m : ℕ → List ℕ) → D.contents disk.old ≡ Some m → ReadWithin (store_reads base_file coin_file m) (D.bytes_read disk.old) (D.bytes_read disk.new) }
     {
-        let mut base_index = Index::new(alloc, salt);
-        if let Err(fault) = open_base(alloc, disk, base_file, limits, &key, &mut base_index) {
-            return Err(fault);
-        }
-        let Ok(mut index) = base_index.copy(alloc) else {
-            return Err(StoreFault::NoMemory);
-        };
-        match open_log(
+        let mask = secrets.key;
+        let mut base_index = Index::new(alloc, &secrets.salt);
+        open_base(alloc, disk, base_file, limits, &mask, &mut base_index)?;
+        let mut index = base_index.copy(alloc)?;
+        let read = open_log(
             alloc,
             disk,
             coin_file,
             Kind::Coins,
             limits,
-            &key,
+            &mask,
             &mut index,
-        ) {
-            Ok(ReadLog { log, markers }) => Ok(CoinStore {
-                log,
-                file: coin_file,
-                base: base_file,
-                mask: key,
-                start: Marker::At { tip: *start },
-                markers,
-                index,
-                base_index,
-                staged: StagedRows::new(alloc),
-                alloc,
-            }),
-            Err(fault) => Err(fault),
-        }
+        )?;
+        let ReadLog { log, markers } = read;
+        Ok(CoinStore {
+            log,
+            base: base_file,
+            mask,
+            start: Marker::At { tip: *start },
+            markers,
+            index,
+            base_index,
+            staged: StagedRows::new(alloc),
+            alloc,
+        })
     }
 
     /// The last batch's marker, or `At` the start.
@@ -169,12 +160,8 @@ impl CoinStore {
         ensures sorted { IfOk result (IsSorted key_order) }
         ensures cause { IfErr result (λ e. e ≡ NoMemory) }
     {
-        let Ok(keys) = self.index.outpoints(self.alloc) else {
-            return Err(StoreFault::NoMemory);
-        };
-        let Ok(sorted) = in_key_order(self.alloc, &keys) else {
-            return Err(StoreFault::NoMemory);
-        };
+        let keys = self.index.outpoints(self.alloc)?;
+        let sorted = in_key_order(self.alloc, &keys)?;
         Ok(sorted)
     }
 
@@ -193,7 +180,7 @@ impl CoinStore {
         ensures full { IsOver self.old.log total → result ≡ Err (StoreFault.Full self.old.log.file) }
         ensures cause { IfErr result (RoomCause self.old.log total) }
     {
-        self.log.room(1 + keys.len() as u64, total)?;
+        self.log.room_in_place(1 + keys.len() as u64, total)?;
         self.index.reserve(keys.len())?;
         self.markers.reserve(keys.len() + 1)?;
         self.staged.make_room(self.alloc, payload)?;
@@ -252,10 +239,11 @@ impl CoinStore {
         ensures cause { IfErr result (λ e. (e ≡ Failed) × Rose (D.faults disk.old) (D.faults disk.new)) }
         ensures faults { D.faults disk.old ≤ D.faults disk.new }
     {
-        let from = put_marker(&mut self.staged.bytes, marker);
-        if let Err(fault) = self.log.append(disk, &self.staged.bytes[from..]) {
-            return Err(fault);
-        }
+        let from = self.staged.frame(marker);
+        let framed = &mut self.staged.bytes[from - LENGTH_ROOM..];
+        let appended = self.log.append_in_place(disk, framed);
+        self.staged.unframe();
+        appended?;
         self.keep_staged(marker, from);
         Ok(())
     }
@@ -264,7 +252,7 @@ impl CoinStore {
     fn keep_staged(&mut self, marker: &Marker, from: usize)
         requires named { All (λ r. HasEntry self.old.index.places r.key) self.old.staged.rows.items }
         requires listed { (places : List Place) × (place : Place) × (self.old.log.places ≡ places ++ place ∷ []) × (place.at + (5 + place.len) < 2 ^ 64 → All (StandsFrom place.at from) self.old.staged.rows.items) }
-        requires front { 65 ≤ self.old.staged.room }
+        requires front { front_len ≤ self.old.staged.room }
         requires room { vec_len self.old.markers < vec_capacity self.old.markers }
         ensures places { (places : List Place) (place : Place) → self.old.log.places ≡ places ++ place ∷ []
             → self.new.index.places ≡ places_noted self.old.log.file place.at from self.old.index.places self.old.staged.rows.items }
@@ -274,14 +262,14 @@ impl CoinStore {
         ensures size { self.old.index.size ≤ self.new.index.size }
         ensures base_index { self.new.base_index ≡ self.old.base_index }
         ensures salt { self.new.index.salt ≡ self.old.index.salt }
-        ensures none_left { (length self.new.staged.bytes.items ≡ 65) × (self.new.staged.rows.items ≡ []) }
+        ensures none_left { (length self.new.staged.bytes.items ≡ front_len) × (self.new.staged.rows.items ≡ []) }
         ensures log { self.new.log ≡ self.old.log }
         ensures base { self.new.base ≡ self.old.base }
         ensures mask { self.new.mask ≡ self.old.mask }
         ensures start { self.new.start ≡ self.old.start }
     {
         let gate = Gate {
-            file: self.file,
+            file: self.log.file(),
             at: last_gate(&self.log),
         };
         note_rows(&mut self.index, gate, from, &self.staged.rows);
@@ -335,12 +323,8 @@ impl CoinStore {
         ensures sorted { IfOk result (IsSorted key_order) }
         ensures cause { IfErr result (λ e. e ≡ NoMemory) }
     {
-        let Ok(keys) = self.base_index.outpoints(self.alloc) else {
-            return Err(StoreFault::NoMemory);
-        };
-        let Ok(sorted) = in_key_order(self.alloc, &keys) else {
-            return Err(StoreFault::NoMemory);
-        };
+        let keys = self.base_index.outpoints(self.alloc)?;
+        let sorted = in_key_order(self.alloc, &keys)?;
         Ok(sorted)
     }
 }

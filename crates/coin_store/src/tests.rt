@@ -3,7 +3,7 @@ ghost use Rattle.coin_codec.specs.CoinText.{coin_text};
 ghost use Rattle.base_types.specs.Coins.{CoinFits};
 ghost use Rattle.coin_store.specs.Batches.{marker_text};
 
-use crate::{CoinStore, Marker};
+use crate::{CoinStore, Marker, Secrets};
 use base_types::{Coin, Hash32, Limits, OutPoint, Salt, Script, StoreFault, View};
 use disk_model::{Disk, Image, MemDisk};
 use std::alloc::Global;
@@ -67,7 +67,8 @@ fn one_row(alloc: Global, value: &[u8]) -> Result<Vec<u8>, Fail> {
 }
 
 fn open<D: Disk>(alloc: Global, disk: &mut D, key: [u8; 8]) -> Result<CoinStore, StoreFault> {
-    CoinStore::open(alloc, disk, 3, None, &START, &LIMITS, &SALT, key)
+    let secrets = Secrets { salt: SALT, key };
+    CoinStore::open(alloc, disk, 3, None, &START, &LIMITS, &secrets)
 }
 
 /// The value of an outpoint's coin, in satoshis.
@@ -114,8 +115,10 @@ fn batches_overrule_a_base(rt: HostRuntime) -> Result<(), Fail> {
         Some(4),
         &START,
         &LIMITS,
-        &SALT,
-        NO_KEY,
+        &Secrets {
+            salt: SALT,
+            key: NO_KEY,
+        },
     )?;
     let second = OutPoint { index: 1, ..FIRST };
     assert_eq!(rt;
@@ -124,6 +127,7 @@ fn batches_overrule_a_base(rt: HostRuntime) -> Result<(), Fail> {
     );
     assert_eq!(rt; value_at(rt.alloc(), &store, &mut disk, &second), Ok(None));
     assert_eq!(rt; store.marker_at(0), Some((Marker::At { tip: TIP }, 0)));
+    assert_eq!(rt; store.keys()?.as_slice(), [FIRST].as_slice());
     assert_eq!(rt; store.base_keys()?.as_slice(), [FIRST, second].as_slice());
     let mut broken = Vec::new(rt.alloc());
     let mut base = store.base_view(&mut disk, &mut broken);
@@ -141,54 +145,6 @@ fn a_failed_read_ends_the_opening(rt: HostRuntime) -> Result<(), Fail> {
         let found = open(rt.alloc(), &mut disk, NO_KEY);
         assert!(rt; found.err() == Some(StoreFault::DiskFailed));
     }
-    let mut disk = MemDisk::from_image(rt.alloc(), &image)?;
-    disk.fail_at(&[8])?;
-    let store = open(rt.alloc(), &mut disk, NO_KEY)?;
-    assert_eq!(rt;
-        value(rt.alloc(), &store, &mut disk),
-        Err(StoreFault::DiskFailed)
-    );
-    assert_eq!(rt;
-        value(rt.alloc(), &store, &mut disk),
-        Ok(Some(5_000_000_000))
-    );
-    Ok(())
-}
-
-#[test]
-fn keys_go_by_their_texts(rt: HostRuntime) -> Result<(), Fail> {
-    // Rows at the numbers 256, 16512 and 255 of one transaction, and one that takes the number 0 away.
-    let mut payload = Vec::from_slice(rt.alloc(), &[0x42])?;
-    payload.extend_from_slice(&[0x22; 32])?;
-    let numbers: [&[u8]; 3] = [&[0x81, 0x00], &[0x80, 0x80, 0x00], &[0x80, 0x7f]];
-    for number in numbers {
-        payload.push(0x43)?;
-        payload.extend_from_slice(&[0x11; 32])?;
-        payload.extend_from_slice(number)?;
-        payload.extend_from_slice(&[0x04, 0x03, 0x32, 0x07, 0x51])?;
-    }
-    payload.push(0x43)?;
-    payload.extend_from_slice(&[0x11; 32])?;
-    payload.extend_from_slice(&[0x00, 0x00])?;
-    let image = image_of(rt.alloc(), &[&payload])?;
-    let mut disk = MemDisk::from_image(rt.alloc(), &image)?;
-    let store = open(rt.alloc(), &mut disk, NO_KEY)?;
-    let keys = store.keys()?;
-    let want = [
-        OutPoint {
-            index: 255,
-            ..FIRST
-        },
-        OutPoint {
-            index: 16_512,
-            ..FIRST
-        },
-        OutPoint {
-            index: 256,
-            ..FIRST
-        },
-    ];
-    assert!(rt; keys.as_slice() == want.as_slice());
     Ok(())
 }
 
@@ -296,36 +252,6 @@ fn a_flush_appends_its_payloads(rt: HostRuntime) -> Result<(), Fail> {
             assert_eq!(rt; value(rt.alloc(), &again, &mut disk), Ok(want));
             assert_eq!(rt; again.marker(), marker);
         }
-    }
-    Ok(())
-}
-
-#[test]
-fn a_failed_flush_leaves_the_store(rt: HostRuntime) -> Result<(), Fail> {
-    let coin = the_coin(rt.alloc())?;
-    let at = Marker::At { tip: TIP };
-    let start = Marker::At { tip: START };
-    for call in 1..=4 {
-        let mut disk = MemDisk::new(rt.alloc());
-        let mut store = open(rt.alloc(), &mut disk, NO_KEY)?;
-        assert_eq!(rt;
-            store.prepare(&[FIRST], 200, 4096),
-            Err(StoreFault::Full { file: 3 })
-        );
-        let before = disk.calls().len() as u64;
-        disk.fail_at(&[before.min(1000) + call])?;
-        assert_eq!(rt;
-            flush(&mut store, &mut disk, &coin, &at),
-            Err(StoreFault::DiskFailed)
-        );
-        assert_eq!(rt; store.marker(), start);
-        assert_eq!(rt; value(rt.alloc(), &store, &mut disk), Ok(None));
-        flush(&mut store, &mut disk, &coin, &at)?;
-        assert_eq!(rt; store.marker(), at);
-        assert_eq!(rt;
-            value(rt.alloc(), &store, &mut disk),
-            Ok(Some(5_000_000_000))
-        );
     }
     Ok(())
 }

@@ -41,9 +41,7 @@ fn read_place<D: Disk>(
     ensures cause { PlaceCause (D.faults disk.old) (D.faults disk.new) result }
     ensures read { OnlyReadUpTo D.contents D.time D.left_since D.bytes_read place.len (λ f. f ≡ place.file) disk.old disk.new }
 {
-    let Ok(mut bytes) = Vec::from_elem(alloc, 0, place.len as usize) else {
-        return Err(StoreFault::NoMemory);
-    };
+    let mut bytes = Vec::from_elem(alloc, 0, place.len as usize)?;
     let Ok(count) = disk.read(place.file, place.at, &mut bytes) else {
         return Err(StoreFault::DiskFailed);
     };

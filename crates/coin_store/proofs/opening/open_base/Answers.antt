@@ -10,11 +10,25 @@ returns-clause-any_moment g c = λ m told.
     log_leaves g.D.Disk.time g.D.Disk.left_since (IsTiny (IsBaseFile c.args.file) m) c.in-Some.file m (λ few. (c.in-Some.is, few)) c.args.disk.now c.open_log.new.disk (c.open_log.ensures.any_moment m told)
     (λ long. (c.open_log.ensures.long m told long).1)
 
+pub returns-in_err-open_log-clause-any_moment : goal.returns-in_err-open_log-clause-any_moment
+returns-in_err-open_log-clause-any_moment g c = λ m told.
+    log_leaves g.D.Disk.time g.D.Disk.left_since (IsTiny (IsBaseFile c.args.file) m) c.in-Some.file m (λ few. (c.in-Some.is, few)) c.args.disk.now c.open_log.new.disk (c.open_log.ensures.any_moment m told)
+    (λ long. (c.open_log.ensures.long m told long).1)
+
 pub returns-clause-part : goal.returns-clause-part
 returns-clause-part g c =
     file_leaves g.D.Disk.time g.D.Disk.left_since c.args.file (Torn 0 1) c.in-Some.file c.in-Some.is torn_still c.args.disk.now c.open_log.new.disk c.open_log.ensures.part
 
+pub returns-in_err-open_log-clause-part : goal.returns-in_err-open_log-clause-part
+returns-in_err-open_log-clause-part g c =
+    file_leaves g.D.Disk.time g.D.Disk.left_since c.args.file (Torn 0 1) c.in-Some.file c.in-Some.is torn_still c.args.disk.now c.open_log.new.disk c.open_log.ensures.part
+
 pub returns-clause-read : goal.returns-clause-read
 returns-clause-read g c = λ m told.
+    subst (λ (f : Option ℕ). ReadWithin (base_reads f m) (g.D.Disk.bytes_read c.args.disk.now) (g.D.Disk.bytes_read c.open_log.new.disk)) (sym c.in-Some.is)
+    (reads_one c.in-Some.file m (g.D.Disk.bytes_read c.args.disk.now) (g.D.Disk.bytes_read c.open_log.new.disk) (c.open_log.ensures.read m told))
+
+pub returns-in_err-open_log-clause-read : goal.returns-in_err-open_log-clause-read
+returns-in_err-open_log-clause-read g c = λ m told.
     subst (λ (f : Option ℕ). ReadWithin (base_reads f m) (g.D.Disk.bytes_read c.args.disk.now) (g.D.Disk.bytes_read c.open_log.new.disk)) (sym c.in-Some.is)
     (reads_one c.in-Some.file m (g.D.Disk.bytes_read c.args.disk.now) (g.D.Disk.bytes_read c.open_log.new.disk) (c.open_log.ensures.read m told))

@@ -12,8 +12,8 @@ invariant-loop-i g l = record {
   contents : g.D.Disk.contents l.disk ≡ g.D.Disk.contents l.fn.disk;
   quiet : Quiet g.D.Disk.time g.D.Disk.left_since l.fn.disk l.disk;
   faults : g.D.Disk.faults l.fn.disk ≤ g.D.Disk.faults l.disk;
-  read : ReadAtMost l.file (sum_by (λ (p : Place). p.len) (take l.i l.places)) (g.D.Disk.bytes_read l.fn.disk) (g.D.Disk.bytes_read l.disk);
+  read : ReadAtMost l.log.file (sum_by (λ (p : Place). p.len) (take l.i l.places)) (g.D.Disk.bytes_read l.fn.disk) (g.D.Disk.bytes_read l.disk);
   known : (payloads : List (List ℕ)) → Stands (g.D.Disk.contents l.fn.disk) (g.D.Disk.left_since l.fn.disk (g.D.Disk.time l.fn.disk)) l.log payloads
-      → HasPayloads l.kind l.file l.mask (take l.i payloads) l.fn.index.places l.index.places l.markers.items;
+      → HasPayloads l.kind l.log.file l.mask (take l.i payloads) l.fn.index.places l.index.places l.markers.items;
   salt : l.index.salt ≡ l.fn.index.salt;
 }

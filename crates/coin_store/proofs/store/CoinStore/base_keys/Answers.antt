@@ -13,15 +13,15 @@ use Rattle.coin_store.proofs.store.CoinStore.base_keys.Goals as goal
 
 pub returns-clause-found : goal.returns-clause-found
 returns-clause-found c = λ q.
-    let moved = subst (λ (l : List OutPoint). IsPermutation l c.in-Ok-in_key_order.sorted) c.deref.ensures.value c.in-Ok-in_key_order.ensures.same in
-    sym (list_any-IsPermutation (eq_by_cmp outpoint_cmp q) c.in-Ok.keys.items c.in-Ok-in_key_order.sorted moved) ∙ c.in-Ok.ensures.found q
+    let moved = subst (λ (l : List OutPoint). IsPermutation l c.in_ok-sorted.sorted) c.deref.ensures.value c.in_ok-sorted.ensures.same in
+    sym (list_any-IsPermutation (eq_by_cmp outpoint_cmp q) c.in_ok-keys.keys.items c.in_ok-sorted.sorted moved) ∙ c.in_ok-keys.ensures.found q
 
 pub returns-clause-held : goal.returns-clause-held
 returns-clause-held c = λ base batches knows q.
-    let moved = subst (λ (l : List OutPoint). IsPermutation l c.in-Ok-in_key_order.sorted) c.deref.ensures.value c.in-Ok-in_key_order.ensures.same in
-    sym (list_any-IsPermutation (eq_by_cmp outpoint_cmp q) c.in-Ok.keys.items c.in-Ok-in_key_order.sorted moved) ∙ c.in-Ok.ensures.found q ∙ base_known c.args.self.now base batches knows q
+    let moved = subst (λ (l : List OutPoint). IsPermutation l c.in_ok-sorted.sorted) c.deref.ensures.value c.in_ok-sorted.ensures.same in
+    sym (list_any-IsPermutation (eq_by_cmp outpoint_cmp q) c.in_ok-keys.keys.items c.in_ok-sorted.sorted moved) ∙ c.in_ok-keys.ensures.found q ∙ base_known c.args.self.now base batches knows q
 
 pub returns-clause-once : goal.returns-clause-once
 returns-clause-once c =
-    let moved = subst (λ (l : List OutPoint). IsPermutation l c.in-Ok-in_key_order.sorted) c.deref.ensures.value c.in-Ok-in_key_order.ensures.same in
-    IsDistinct-IsPermutation (eq_by_cmp outpoint_cmp) (eq_by_cmp_equiv outpoint_cmp_total).symm c.in-Ok.keys.items c.in-Ok-in_key_order.sorted moved c.in-Ok.ensures.once
+    let moved = subst (λ (l : List OutPoint). IsPermutation l c.in_ok-sorted.sorted) c.deref.ensures.value c.in_ok-sorted.ensures.same in
+    IsDistinct-IsPermutation (eq_by_cmp outpoint_cmp) (eq_by_cmp_equiv outpoint_cmp_total).symm c.in_ok-keys.keys.items c.in_ok-sorted.sorted moved c.in_ok-keys.ensures.once

@@ -18,6 +18,6 @@ pub returns-clause-places : goal.returns-clause-places
 returns-clause-places c = λ places place is.
     let s = c.args.self.now in
     c.note_rows.ensures.places
-    ∙ ap (λ (l : List StagedRow). places_noted s.file c.last_gate.result c.args.from s.index.places l) c.deref.ensures.value
-    ∙ ap (λ (f : ℕ). places_noted f c.last_gate.result c.args.from s.index.places s.staged.rows.items) s.named
+    ∙ ap (λ (l : List StagedRow). places_noted c.file.result c.last_gate.result c.args.from s.index.places l) c.deref.ensures.value
+    ∙ ap (λ (f : ℕ). places_noted f c.last_gate.result c.args.from s.index.places s.staged.rows.items) c.file.ensures
     ∙ ap (λ (n : ℕ). places_noted s.log.file n c.args.from s.index.places s.staged.rows.items) (c.last_gate.ensures places place is).0

@@ -11,16 +11,16 @@ unreachable-requires c =
     let left = c.loop.invariant.left in
     let lt = c.loop-test.true in
     no_fault c.loop.cursor (c.in-Err-Bad.field-0-0, c.in-Err-Bad.field-0-1) (omega arith)
-    (subst (λ (f : BlockFault). Fails f (header_at c.loop.cursor)) c.in-Err-Bad.field-0-is c.in-Err-Bad.ensures)
+    (subst (λ (f : BlockFault). Fails f (header_at c.loop.cursor)) c.in-Err-Bad.field-0-is c.in-Err-Bad.ensures.exact)
 
 pub loop-preserved : goal.loop-preserved
 loop-preserved c =
     let left = c.loop.invariant.left in
     let lt = c.loop-test.true in
-    let took = takes_80 c.loop.cursor c.read_header.new.cursor c.in-Ok.header (omega arith) c.in-Ok.ensures in
+    let took = takes_80 c.loop.cursor c.read_header.new.cursor c.in-Ok.header (omega arith) c.in-Ok.ensures.exact in
     record {
       read = rw c.in_ok-push-in-Ok.ensures.ok (goes_on header_at c.loop.headers (length c.args.payload.now / 80) c.loop.counter c.loop.cursor c.in-Ok.header c.read_header.new.cursor
-          (many_at header_at (length c.args.payload.now / 80) (at (length c.args.payload.now) c.args.payload.now)) lt c.in-Ok.ensures c.loop.invariant.read);
+          (many_at header_at (length c.args.payload.now / 80) (at (length c.args.payload.now) c.args.payload.now)) lt c.in-Ok.ensures.exact c.loop.invariant.read);
       left = omega arith;
     }
 

@@ -15,11 +15,10 @@ use Rattle.base_types.specs.Codec.{IsBytes, at, field, many_at}
 use Rattle.base_types.proofs.Codecs.{Takes, Takes-then, IsCodec, bind_ok, guard_else, ok_is, step, many_codec}
 use Rattle.block_codec.specs.declared.block.Header.{Header}
 use Rattle.block_codec.specs.declared.block.Block.{Block}
-use Rattle.block_codec.specs.declared.block.Tx.{Tx}
 use Rattle.block_codec.specs.declared.fault.BlockError.TheVariants.{Trailing}
-use Rattle.block_codec.specs.Reading.{Wrong, wrong, tx_at, header_at, block_at, block_of, tx_of}
+use Rattle.block_codec.specs.Reading.{Wrong, wrong, tx_at, header_at, block_at, block_of}
 use Rattle.block_codec.specs.Text.{tx_text, header_text, block_text}
-use Rattle.block_codec.specs.Fitting.{IsLength, TxFits, HeaderFits, BlockFits}
+use Rattle.block_codec.specs.Fitting.{IsLength, HeaderFits, BlockFits}
 use Rattle.block_codec.proofs.InputLaws.{u32_codec, length_codec, bytes_codec}
 use Rattle.block_codec.proofs.TxLaws.{tx_codec}
 
@@ -171,22 +170,6 @@ unfolding block_of
 whole_again b fits =
     let whole : block_at (at (length (block_text b)) (block_text b)) ≡ Ok (b, at (length (block_text b)) []) =
     ap (λ (y : List ℕ). block_at (at (length (block_text b)) y)) (sym (append-nil (block_text b))) ∙ block_codec.again b (length (block_text b)) [] fits in
-    rw whole refl
-
-pub whole_tx_takes : (bytes : List ℕ) (t : Tx) → IsBytes bytes → tx_of bytes ≡ Ok t → TxFits t × (bytes ≡ tx_text t)
-unfolding tx_of
-whole_tx_takes bytes t fits e =
-    let a = step tx_codec (at (length bytes) bytes) _ t fits e in
-    let g = guard_else (eqb (length a.after.rest) 0) (Trailing, place a.after) a.value t a.goes_on in
-    let nothing : a.after.rest ≡ [] = nil_from_length a.after.rest (eqb-true _ _ g.0) in
-    let whole : bytes ≡ tx_text a.value = a.takes.parts ∙ ap (λ (r : List ℕ). tx_text a.value ++ r) nothing ∙ append-nil (tx_text a.value) in
-    subst (λ (y : Tx). TxFits y × (bytes ≡ tx_text y)) g.1 (a.fits, whole)
-
-pub whole_tx_again : (t : Tx) → TxFits t → tx_of (tx_text t) ≡ Ok t
-unfolding tx_of
-whole_tx_again t fits =
-    let whole : tx_at (at (length (tx_text t)) (tx_text t)) ≡ Ok (t, at (length (tx_text t)) []) =
-    ap (λ (y : List ℕ). tx_at (at (length (tx_text t)) y)) (sym (append-nil (tx_text t))) ∙ tx_codec.again t (length (tx_text t)) [] fits in
     rw whole refl
 
 -- bytes that are a block begin with its header

@@ -19,10 +19,10 @@ use Rattle.block_codec.specs.Fitting.{IsLength, ScriptFits, OutputFits, StackFit
 use Rattle.std.proofs.Common.{Result, Ok, Err}
 use Rattle.std.specs.Prelude.{IfOk}
 use Rattle.base_types.specs.Codec.{IsBytes}
-use Rattle.block_codec.specs.Reading.{Answers, block_of, tx_of}
+use Rattle.block_codec.specs.Reading.{Answers, block_of}
 use Rattle.block_codec.specs.declared.fault.BlockFault.{BlockFault}
-use Rattle.block_codec.proofs.BlockLaws.{whole_takes, whole_tx_takes}
-use Rattle.block_codec.specs.Text.{every, is_i32, is_i64, is_u32, is_length, is_hash, script_has_text, output_has_text, stack_has_text, input_has_text, tx_has_text, header_has_text, block_has_text, tx_text, block_text, text_of, tx_text_of}
+use Rattle.block_codec.proofs.BlockLaws.{whole_takes}
+use Rattle.block_codec.specs.Text.{every, is_i32, is_i64, is_u32, is_length, is_hash, script_has_text, output_has_text, stack_has_text, input_has_text, tx_has_text, header_has_text, block_has_text, block_text, text_of}
 
 i64_fits : (z : ℤ) → is_i64 z ≡ true → FitsSigned w64 z
 i64_fits (pos n) h = grind (arith, nat_tests, ints)
@@ -115,7 +115,7 @@ alone_again : (a b : Bool) → (a ≡ true → b ≡ true) → (not a || b) ≡ 
 alone_again true b f = f refl
 alone_again false b f = refl
 
-tx_fits : (t : Tx) → tx_has_text t ≡ true → TxFits t
+pub tx_fits : (t : Tx) → tx_has_text t ≡ true → TxFits t
 tx_fits t h =
     let p = parts (is_u32 t.version ∷ is_length (length t.inputs) ∷ list_all input_has_text t.inputs ∷ is_length (length t.outputs) ∷ list_all output_has_text t.outputs ∷ is_u32 t.lock_time ∷ (not (length t.inputs == 0) || (length t.outputs == 0)) ∷ []) h in
     record {
@@ -128,7 +128,7 @@ tx_fits t h =
       no_outputs_alone = λ e. nil_from_length t.outputs (eqb-true (length t.outputs) 0 (alone (length t.inputs == 0) (length t.outputs == 0) p.1.1.1.1.1.1.0 (eq-eqb (length t.inputs) 0 (ap length e))));
     }
 
-fits_tx : (t : Tx) → TxFits t → tx_has_text t ≡ true
+pub fits_tx : (t : Tx) → TxFits t → tx_has_text t ≡ true
 fits_tx t f =
     joined (is_u32 t.version ∷ is_length (length t.inputs) ∷ list_all input_has_text t.inputs ∷ is_length (length t.outputs) ∷ list_all output_has_text t.outputs ∷ is_u32 t.lock_time ∷ (not (length t.inputs == 0) || (length t.outputs == 0)) ∷ []) (
       lt-ltb t.version (2 ^ 32) f.version,
@@ -177,7 +177,7 @@ fits_block b f =
     joined (header_has_text b.header ∷ is_length (length b.txs) ∷ list_all tx_has_text b.txs ∷ [])
     (fits_header b.header f.header, (fits_length (length b.txs) f.tx_count, (fit_all tx_has_text TxFits fits_tx b.txs f.txs, tt)))
 
-some_is : (b : Bool) (x y : List ℕ) → cond b (Some x) None ≡ Some y → (b ≡ true) × (x ≡ y)
+pub some_is : (b : Bool) (x y : List ℕ) → cond b (Some x) None ≡ Some y → (b ≡ true) × (x ≡ y)
 some_is true x y e = (refl, cc)
 some_is false x y e = absurd cc
 
@@ -194,19 +194,3 @@ is_found bytes (Ok b) fits given =
     let p = whole_takes bytes b fits given in
     text_is b bytes p.0 p.1
 is_found bytes (Err e) fits given = tt
-
--- ---- the same of a transaction
-
-pub tx_text_from : (t : Tx) (bytes : List ℕ) → tx_text_of t ≡ Some bytes → TxFits t × (bytes ≡ tx_text t)
-tx_text_from t bytes e =
-    let p = some_is (tx_has_text t) (tx_text t) bytes e in
-    (tx_fits t p.0, sym p.1)
-
-pub tx_text_is : (t : Tx) (bytes : List ℕ) → TxFits t → bytes ≡ tx_text t → tx_text_of t ≡ Some bytes
-tx_text_is t bytes fits e = rw (fits_tx t fits) (ap (λ (x : List ℕ). Some x) (sym e))
-
-pub is_found_tx : (bytes : List ℕ) (r : Result Tx BlockFault) → IsBytes bytes → Answers r (tx_of bytes) → IfOk r (λ t. tx_text_of t ≡ Some bytes)
-is_found_tx bytes (Ok t) fits given =
-    let p = whole_tx_takes bytes t fits given in
-    tx_text_is t bytes p.0 p.1
-is_found_tx bytes (Err e) fits given = tt

@@ -5,4 +5,5 @@ pub mod Loop
 mod Places
 mod Skips
 mod Stacks
+pub mod TxAlone
 pub mod TxLaws

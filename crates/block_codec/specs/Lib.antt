@@ -9,4 +9,6 @@ pub mod Merkle
 pub mod Reading
 pub mod Skipping
 pub mod Text
+pub mod Told
+pub mod TxAlone
 pub mod Weight

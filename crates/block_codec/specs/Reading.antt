@@ -32,11 +32,6 @@ abbrev pub Fails : {Y : Type 0} → BlockFault → Result Y Wrong → Type 0
 Fails NoMemory read = Unit {0}
 Fails (Bad error at) read = read ≡ Err (error, at)
 
--- the bytes are wrong, and memory didn't run out
-abbrev pub IsTold : BlockFault → Type 0
-IsTold NoMemory = ⊥
-IsTold (Bad error at) = Unit {0}
-
 -- of what view shows
 abbrev pub ReadsAs : {X Y : Type 0} → (X → Y) → Result X BlockFault → Input → Result (Y × Input) Wrong → Type 0
 ReadsAs view (Ok x) new read = read ≡ Ok (view x, new)
@@ -153,9 +148,3 @@ unfoldable pub block_of : List ℕ → Result Block Wrong
 block_of bytes = do
   block ← block_at (record { end = length bytes; rest = bytes })
   if length block.1.rest == 0 then Ok block.0 else Err (Trailing, place block.1)
-
--- the transaction that all of the bytes are, or the first fault
-unfoldable pub tx_of : List ℕ → Result Tx Wrong
-tx_of bytes = do
-  tx ← tx_at (record { end = length bytes; rest = bytes })
-  if length tx.1.rest == 0 then Ok tx.0 else Err (Trailing, place tx.1)

@@ -153,7 +153,3 @@ block_has_text b = every (header_has_text b.header ∷ is_length (length b.txs) 
 -- the text of a block, or none
 abbrev pub text_of : Block → Option (List ℕ)
 text_of b = if block_has_text b then Some (block_text b) else None
-
--- the text of a transaction, or none
-abbrev pub tx_text_of : Tx → Option (List ℕ)
-tx_text_of t = if tx_has_text t then Some (tx_text t) else None

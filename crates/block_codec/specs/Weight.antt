@@ -1,10 +1,9 @@
--- Sizes of blocks and transactions in bytes, and their weight (BIP 141).
+-- Sizes of blocks in bytes, and their weight (BIP 141).
 use Rattle.std.specs.Prelude.{ℕ, ◌+◌, ◌*◌, List, length, ◌++◌}
 use Rattle.std.specs.List.{flat_map}
 use Rattle.base_types.specs.Bytes.{compact}
 use Rattle.block_codec.specs.declared.block.Block.{Block}
-use Rattle.block_codec.specs.declared.block.Tx.{Tx}
-use Rattle.block_codec.specs.Text.{header_text, stripped_text, tx_text, block_text}
+use Rattle.block_codec.specs.Text.{header_text, stripped_text, block_text}
 
 -- a block with each transaction in the form without witness
 abbrev pub stripped_block_text : Block → List ℕ
@@ -20,14 +19,3 @@ total_size_of b = length (block_text b)
 -- so that a byte of a witness counts a quarter of another byte
 abbrev pub weight_of : Block → ℕ
 weight_of b = 3 * stripped_size_of b + total_size_of b
-
--- ---- the same of one transaction
-
-abbrev pub stripped_tx_size_of : Tx → ℕ
-stripped_tx_size_of t = length (stripped_text t)
-
-abbrev pub total_tx_size_of : Tx → ℕ
-total_tx_size_of t = length (tx_text t)
-
-abbrev pub tx_weight_of : Tx → ℕ
-tx_weight_of t = 3 * stripped_tx_size_of t + total_tx_size_of t

@@ -4,8 +4,10 @@ ghost use Rattle.std.specs.Prelude.{◌≡◌, ℕ, length, Ok, Err, IfOk, IfErr
 ghost use Rattle.std.specs.Int.{w32, w64};
 ghost use Rattle.base_types.specs.Reading.{byte_at, bytes_at, number_at, length_at};
 ghost use Rattle.base_types.specs.Codec.{field, renamed};
-ghost use Rattle.block_codec.specs.Reading.{Wrong, wrong, Answers, Reads, ReadsAs, Fails, script_at, output_at, input_at, stack_at, stacks_at, lists_at, ended_at, stripped_at, full_at, flagged_at, tx_at, header_at, block_at, block_of, tx_of, IsTold};
-ghost use Rattle.block_codec.specs.Text.{text_of, tx_text_of};
+ghost use Rattle.block_codec.specs.Reading.{Wrong, wrong, Answers, Reads, ReadsAs, Fails, script_at, output_at, input_at, stack_at, stacks_at, lists_at, ended_at, stripped_at, full_at, flagged_at, tx_at, header_at, block_at, block_of};
+ghost use Rattle.block_codec.specs.Text.{text_of};
+ghost use Rattle.block_codec.specs.Told.{IsTold};
+ghost use Rattle.block_codec.specs.TxAlone.{tx_of, tx_text_of};
 ghost use Rattle.block_codec.specs.declared.block.Block.{Block};
 ghost use Rattle.block_codec.specs.declared.block.Tx.{Tx};
 
@@ -314,7 +316,7 @@ pub fn read_block(alloc: Global, bytes: &[u8]) -> Result<Block, BlockFault>
     whole_block(alloc, bytes)
 }
 
-#[tactic(auto, unfolding(crate::specs::Reading::tx_of))]
+#[tactic(auto, unfolding(crate::specs::TxAlone::tx_of))]
 fn whole_tx(alloc: Global, bytes: &[u8]) -> Result<Tx, BlockFault>
     ensures { Answers result (tx_of bytes.now) }
 {

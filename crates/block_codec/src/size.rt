@@ -1,7 +1,8 @@
 //! Sizes of blocks and transactions. Each is 2^64 - 1 where it would be above that.
 
 ghost use Rattle.std.specs.Prelude.{◌≡◌, ◌^◌, ◌-◌, min};
-ghost use Rattle.block_codec.specs.Weight.{stripped_size_of, total_size_of, weight_of, stripped_tx_size_of, total_tx_size_of, tx_weight_of};
+ghost use Rattle.block_codec.specs.TxAlone.{stripped_tx_size_of, total_tx_size_of, tx_weight_of};
+ghost use Rattle.block_codec.specs.Weight.{stripped_size_of, total_size_of, weight_of};
 
 use crate::block::{Block, Tx};
 use crate::encoder::Counter;

@@ -1,4 +1,7 @@
-use crate::{CoinFault, coin_len, is_coin, key_len, read_coin, read_key, write_coin, write_key};
+use crate::{
+    CoinFault, coin_len, compress_amount, decompress_amount, is_coin, key_len, read_coin, read_key,
+    write_coin, write_key,
+};
 use base_types::{Coin, CoinError, Cursor, Hash32, OutPoint, ReadError, Script};
 use std::alloc::Global;
 use std::test::Fail;

@@ -1,6 +1,6 @@
 -- The slots of an index move to one with more buckets.
 use Rattle.std.proofs.Common.{◌≡◌, ◌≢◌, ◌⊎◌, inl, inr, ◌+◌, ◌<◌, ◌≤◌, ℕ, zero, suc, List, [], ◌∷◌, map, length, get_or, set, replicate, Option, Some, None, IsSome, is_some, refl, sym, ap, ◌∙◌, subst, arith, length-set}
-use Rattle.std.proofs.lemmas.List.{get_or-set_same}
+use Rattle.std.proofs.lemmas.List.{get_or-set_same, length-replicate}
 use Rattle.std.specs.Ordering.{nat_cmp}
 use Rattle.std.specs.FinMap.{FinMap, get, empty, insert, remove, get-empty}
 use Rattle.slot_pool.specs.Slots.{first_or, IsIn, IsDistinct}
@@ -8,7 +8,7 @@ use Rattle.base_types.specs.Keys.{outpoint_cmp}
 use Rattle.base_types.specs.declared.hash.OutPoint.{OutPoint}
 use Rattle.coin_index.specs.declared.index.Index.{Index}
 use Rattle.coin_index.specs.Hash.{bucket_of}
-use Rattle.coin_index.specs.Index.{AreChained, IsIndex}
+use Rattle.coin_index.specs.Index.{AreChained, HasEmptyBuckets, IsIndex, bucket_count}
 use Rattle.coin_index.proofs.IndexLaws.{same_key_or_not, found_here, found_off, gone_here, gone_off, same_found, index_kept, found_held, get_or-map_first, chains_count}
 use Rattle.coin_index.specs.Rehash.{IsSplit, AreSplit}
 use Rattle.coin_index.proofs.Chains.{ahead, ahead-chain, chain_short}
@@ -140,6 +140,10 @@ module _ {T : Type 0} (key : T → OutPoint) (chain : T → Option ℕ) where
     at : (k : OutPoint) → ((get h.rest k ≡ get all k) × (get h.moved k ≡ None)) ⊎ ((get h.rest k ≡ None) × (get h.moved k ≡ get all k)) → get h.moved k ≡ get all k
     at k (inl l) = l.1 ∙ sym (nothing k (get h.rest k) refl) ∙ l.0
     at k (inr r) = r.1
+
+-- and keeps so many buckets
+pub empty_count : (i : Index) (n : ℕ) → HasEmptyBuckets i n → bucket_count i ≡ n
+empty_count i n e = i.buckets.ok.0 ∙ ap length e ∙ length-replicate n None
 
 -- buckets are emptied from the first on
 pub emptied_more : (os ns : List (Option ℕ)) (b : ℕ) → ns ≡ set os b None → ((c : ℕ) → c < b → get_or os c None ≡ None) → (c : ℕ) → c < b + 1 → get_or ns c None ≡ None

@@ -1,5 +1,5 @@
 -- What an index is: from each of its buckets a chain of slots leads through the values of a pool, and the chains have the slot of each key.
-use Rattle.std.specs.Prelude.{◌≡◌, ℕ, List, [], ◌∷◌, map, length, get_or, Option, Some, None, vec_len}
+use Rattle.std.specs.Prelude.{◌≡◌, ℕ, List, [], ◌∷◌, map, length, get_or, replicate, Option, Some, None, vec_len}
 use Rattle.std.specs.Ordering.{nat_cmp}
 use Rattle.std.specs.FinMap.{FinMap, get}
 use Rattle.slot_pool.specs.Slots.{first_or, IsIn, IsDistinct}
@@ -20,6 +20,10 @@ salt_of i = i.salt
 -- an index without buckets, which over every pool finds nothing
 abbrev pub IsNew : Index → Salt → Type 0
 IsNew i salt = (i.buckets.items ≡ []) × (i.salt ≡ salt)
+
+-- an index with so many buckets, which are empty: over every pool it finds nothing
+abbrev pub HasEmptyBuckets : Index → ℕ → Type 0
+HasEmptyBuckets i count = i.buckets.items ≡ replicate count None
 
 module _ {T : Type 0} (key : T → OutPoint) (chain : T → Option ℕ) (m : FinMap nat_cmp T) where
   -- each slot holds a value whose link names the next

@@ -6,7 +6,7 @@ ghost use Rattle.slot_pool.specs.Changes.{ChangesOnly};
 ghost use Rattle.slot_pool.specs.Pool.{with_value};
 ghost use Rattle.slot_pool.specs.Slots.{first_or, last_or, IsDistinct};
 ghost use Rattle.coin_index.specs.Hash.{bucket_of};
-ghost use Rattle.coin_index.specs.Index.{AreChained, IsIndex, IsNew, bucket_count, salt_of};
+ghost use Rattle.coin_index.specs.Index.{AreChained, HasEmptyBuckets, IsIndex, IsNew, bucket_count, salt_of};
 ghost use Rattle.coin_index.specs.Rehash.{AreSplit};
 
 use crate::chained::Chained;
@@ -76,6 +76,16 @@ impl Index {
         ensures { result ≡ salt_of self.now }
     {
         self.salt
+    }
+
+    /// Takes all slots away: over every pool the index finds nothing then. Its buckets stay. It takes no memory.
+    pub fn clear(&mut self)
+        ensures buckets { HasEmptyBuckets self.new (bucket_count self.old) }
+        ensures salt { salt_of self.new ≡ salt_of self.old }
+    {
+        for place in 0..self.buckets.len() {
+            self.buckets[place] = None;
+        }
     }
 
     // The bucket of a key.

@@ -1,6 +1,7 @@
 pub mod ChangeLaws
 pub mod Chunks
 pub mod Claims
+pub mod Clears
 pub mod Layouts
 pub mod Pools
 pub mod Rows

@@ -121,7 +121,7 @@ one_place (x ∷ xs) ys [] vs s d e = let f : x ≡ s = cc e in absurd (d.0 (sub
 one_place (x ∷ xs) ys (u ∷ us) vs s d e =
     let f : x ≡ u = cc e in let g : xs ++ s ∷ ys ≡ us ++ s ∷ vs = cc e in let r = one_place xs ys us vs s d.1 g in (λ i. f i ∷ r.0 i, r.1)
 
-positive : {T : Type 0} (m : FinMap nat_cmp T) (s : ℕ) → contains_key m s ≡ true → 0 < len m
+pub positive : {T : Type 0} (m : FinMap nat_cmp T) (s : ℕ) → contains_key m s ≡ true → 0 < len m
 positive m s h = go (cases_eq (len m) 0) where
   go : (len m ≡ 0) ⊎ (len m ≡ 0 → ⊥) → 0 < len m
   go (inl e) = let f : false ≡ true = sym (ap is_some (ap (λ k. get k s) (empty_of_len m e) ∙ get-empty nat_cmp s)) ∙ h in cc

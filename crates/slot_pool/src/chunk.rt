@@ -1,5 +1,5 @@
 //! A chunk: 256 places, each empty or holding a value, which stays where it is.
-ghost use Rattle.std.specs.Prelude.{◌≡◌, ℕ, ◌<◌, replicate, get_or, slice_set, IfOk, Some, None};
+ghost use Rattle.std.specs.Prelude.{◌≡◌, ℕ, ◌<◌, replicate, get_or, slice_set, IfOk, is_some, Some, None};
 ghost use Rattle.std.specs.Borrow.{sem};
 ghost use Rattle.slot_pool.specs.Held.{IsHeld};
 
@@ -83,6 +83,14 @@ impl<T> Chunk<T> {
         ensures value { get_or self.old place None ≡ Some result.now }
     {
         self.cells.get_mut(place)
+    }
+
+    /// Whether a place holds a value.
+    pub(crate) fn is_filled(&self, place: usize) -> bool
+        requires { place < 256 }
+        ensures { result ≡ is_some (get_or self.now place None) }
+    {
+        self.filled[place]
     }
 
     /// Gives up the memory of an empty chunk.

@@ -1,5 +1,5 @@
 //! A pool of values: a finite map from slots to values, and the number of values that fit without memory.
-ghost use Rattle.std.specs.Prelude.{◌≡◌, ◌+◌, ◌-◌, ◌*◌, ◌<◌, ◌≤◌, ◌^◌, ◌↔◌, ◌++◌, IsSome, IsErrOf, OnOk, OnErr, Some, None, vec_len, vec_capacity};
+ghost use Rattle.std.specs.Prelude.{◌≡◌, ◌+◌, ◌-◌, ◌*◌, ◌<◌, ◌≤◌, ◌^◌, ◌↔◌, ◌++◌, is_some, IsSome, IsErrOf, OnOk, OnErr, Some, None, vec_len, vec_capacity};
 ghost use Rattle.std.specs.FinMap as map;
 ghost use Rattle.std.specs.Borrow.{sem};
 ghost use Rattle.slot_pool.specs.Pool.{contents};
@@ -166,5 +166,29 @@ impl<T> Pool<T> {
     {
         let place = slot.index as usize;
         self.chunks[place / 256].get_mut(place % 256)
+    }
+}
+
+impl<T> Pool<T> {
+    // Whether the place with this number holds a value.
+    fn is_taken(&self, place: usize) -> bool
+        requires { place < map.len self.now.values + self.now.spare }
+        ensures { result ≡ is_some (map.get self.now.values place) }
+    {
+        self.chunks[place / 256].is_filled(place % 256)
+    }
+}
+
+impl<T: Drop> Pool<T> {
+    /// Gives up all values. Their slots serve again: as many more values fit without memory. It takes no memory.
+    pub fn clear(&mut self)
+        ensures { self.new ≡ contents map.empty (self.old.spare + map.len self.old.values) }
+    {
+        for place in 0..self.chunks.len() * 256 {
+            if self.is_taken(place) {
+                let index = place as u32;
+                drop(self.take(Slot { index }));
+            }
+        }
     }
 }

@@ -1,3 +1,4 @@
+pub mod Flags
 pub mod Lookups
 pub mod Meanings
 pub mod Merges

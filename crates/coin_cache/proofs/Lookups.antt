@@ -176,13 +176,14 @@ same_slot m s x w at is = same_map nat_cmp_total nat_cmp-IsAntisymmetric _ _ (λ
   go t (inr ne) = sym (get_off m s w t ne)
 
 -- two writes into one slot
+pub slots_again : (m : FinMap nat_cmp Entry) (s : ℕ) (v w : Entry) → insert (insert m s v) s w ≡ insert m s w
+slots_again m s v w = same_map nat_cmp_total nat_cmp-IsAntisymmetric _ _ (λ t. go t (cases_eq t s)) where
+  go : (t : ℕ) → (t ≡ s) ⊎ (t ≡ s → ⊥) → get (insert (insert m s v) s w) t ≡ get (insert m s w) t
+  go t (inl e) = ap (get (insert (insert m s v) s w)) e ∙ get_here (insert m s v) s w ∙ sym (get_here m s w) ∙ ap (get (insert m s w)) (sym e)
+  go t (inr ne) = get_off (insert m s v) s w t ne ∙ get_off m s v t ne ∙ sym (get_off m s w t ne)
+
 pub entries_again : (c d : Contents) → IsSound c → IsSound d → (s : ℕ) (v w : Entry) → d.slots ≡ insert (insert c.slots s v) s w → v.key ≡ w.key → ((x : Entry) → get c.slots s ≡ Some x → x.key ≡ w.key) → entries_of d ≡ insert (entries_of c) w.key w
-entries_again c d h k s v w is same own = entries_put c d h k s w (is ∙ twice) own where
-  twice : insert (insert c.slots s v) s w ≡ insert c.slots s w
-  twice = same_map nat_cmp_total nat_cmp-IsAntisymmetric _ _ (λ t. go t (cases_eq t s)) where
-    go : (t : ℕ) → (t ≡ s) ⊎ (t ≡ s → ⊥) → get (insert (insert c.slots s v) s w) t ≡ get (insert c.slots s w) t
-    go t (inl e) = ap (get (insert (insert c.slots s v) s w)) e ∙ get_here (insert c.slots s v) s w ∙ sym (get_here c.slots s w) ∙ ap (get (insert c.slots s w)) (sym e)
-    go t (inr ne) = get_off (insert c.slots s v) s w t ne ∙ get_off c.slots s v t ne ∙ sym (get_off c.slots s w t ne)
+entries_again c d h k s v w is same own = entries_put c d h k s w (is ∙ slots_again c.slots s v w) own
 
 -- what was written before it is taken out doesn't matter
 pub remove_over : (m : FinMap nat_cmp Entry) (s : ℕ) (w : Entry) → remove (insert m s w) s ≡ remove m s

@@ -1,8 +1,10 @@
 -- What each step on an entry leaves of the fields.
-use Rattle.std.proofs.Common.{◌≡◌, inl, inr, ◌+◌, ◌-◌, ◌^◌, ◌<◌, ◌≤◌, ◌++◌, min, ℕ, true, false, List, [], ◌∷◌, length, Some, is_some, refl, sym, ap, subst, ◌∙◌, arith}
+use Rattle.std.proofs.Common.{◌≡◌, ◌⊎◌, inl, inr, ◌+◌, ◌-◌, ◌^◌, ◌<◌, ◌≤◌, ◌++◌, min, ℕ, true, false, List, [], ◌∷◌, length, Option, Some, None, is_some, refl, sym, ap, subst, ◌∙◌, arith}
 use Rattle.std.specs.Prelude.{IfSome}
 use Rattle.std.specs.Ordering.{nat_cmp}
-use Rattle.std.specs.FinMap.{FinMap, get, insert, remove, len}
+use Rattle.std.specs.Cmp.{nat_cmp_total}
+use Rattle.std.specs.FinMap.{FinMap, get, empty, get-empty, insert, remove, len, len-empty, same_map, nat_cmp-IsAntisymmetric}
+use Rattle.std.proofs.lemmas.Bool.{cases_lt}
 use Rattle.std.proofs.lemmas.List.{length-append}
 use Rattle.slot_pool.specs.Changes.{ChangesOnly}
 use Rattle.slot_pool.specs.Pool.{Contents as Pooled, contents as pooled, with_value}
@@ -23,7 +25,7 @@ use Rattle.coin_cache.specs.declared.cache.Cache.TheInside.{Inside}
 use Rattle.coin_cache.specs.Contents.{Entry, Contents, contents}
 use Rattle.coin_cache.specs.Entries.{AreSound}
 use Rattle.coin_cache.specs.Inside.{entry_of, key_of, chain_of, links_of, slots_of, contents_of, FindsEach, IsInside}
-use Rattle.coin_cache.proofs.Nodes.{slots_beside, slots_put, slots_take, slot_seen, len_over, len_take}
+use Rattle.coin_cache.proofs.Nodes.{len-slots, slots_beside, slots_put, slots_take, slot_seen, len_over, len_take}
 use Rattle.coin_cache.proofs.Puts.{with_chain}
 use Rattle.coin_cache.proofs.Sound.{sound_write, sound_flag, sound_unflag, sound_take, not_flagged, each_over, each_take}
 use Rattle.coin_cache.proofs.Views.{view_as, slots_are, changes_are, spare_is, salt_is}
@@ -206,3 +208,26 @@ module _ (i : Inside) (h : IsInside i) (c : Contents) (is : contents_of i ≡ c)
     pub keep_view : contents_of (record i { pool = m; index = j }) ≡ contents c.slots c.changes (min m.spare (max_entries - len c.slots)) c.salt
     keep_view = view_as m i.flags _ _ _ _ _ (keep_slots ∙ sym (slots_are i h c is)) (subst (λ l. IsList links_of m.values i.flags l) (sym (changes_are i h c is)) keep_list)
         (ap (λ q. min m.spare (max_entries - q)) (ap len keep_slots ∙ sym (ap len (slots_are i h c is)))) (salt ∙ sym (salt_is i h c is))
+
+-- a cache with entries, or with room for some, has buckets
+pub some_buckets : (i : Inside) → IsInside i → 0 < i.pool.spare + len i.pool.values → 0 < bucket_count i.index
+some_buckets i h some = go (cases_lt 0 (bucket_count i.index)) where
+  old : FinMap nat_cmp Entry
+  old = slots_of i.pool.values
+
+  none : bucket_count i.index ≤ 0 → (s : ℕ) (o : Option Entry) → get old s ≡ o → get old s ≡ None
+  none le s None at = at
+  none le s (Some x) at = absurd (omega (arith, le, found_buckets key_of chain_of i.pool.values i.index h.found h.index x.key s (h.each s x at)))
+
+  empty_old : bucket_count i.index ≤ 0 → old ≡ empty
+  empty_old le = same_map nat_cmp_total nat_cmp-IsAntisymmetric _ _ (λ s. none le s (get old s) refl ∙ sym (get-empty nat_cmp s))
+
+  no_room : bucket_count i.index ≤ 0 → i.pool.spare ≤ 0
+  no_room le = go (cases_lt 0 i.pool.spare) where
+    go : (0 < i.pool.spare) ⊎ (i.pool.spare ≤ 0) → i.pool.spare ≤ 0
+    go (inl lt) = absurd (omega (arith, le, h.buckets lt))
+    go (inr ge) = ge
+
+  go : (0 < bucket_count i.index) ⊎ (bucket_count i.index ≤ 0) → 0 < bucket_count i.index
+  go (inl lt) = lt
+  go (inr le) = absurd (omega (arith, some, no_room le, len-slots i.pool.values, ap len (empty_old le) ∙ len-empty nat_cmp Entry))

@@ -29,7 +29,6 @@ pub struct Cache {
     flags: FlagList,
     count: u32,
     changes: u32,
-    alloc: Global,
 }
 
 impl Model for Cache {
@@ -47,9 +46,12 @@ impl Model for Cache {
 }
 
 impl Cache {
+    ghost use Rattle.coin_cache.specs.Entries.{StandsOver, means};
+
     /// A cache without entries, which takes no memory. The salt is that of its index.
     pub fn new(alloc: Global, salt: &Salt) -> Cache
-        ensures { result ≡ contents map.empty [] 0 salt.now }
+        ensures empty { result ≡ contents map.empty [] 0 salt.now }
+        ensures coins { (told : Option Coins) → (means result told ≡ told) × StandsOver result told }
     {
         Cache {
             pool: Pool::new(alloc),
@@ -57,7 +59,6 @@ impl Cache {
             flags: FlagList::new(),
             count: 0,
             changes: 0,
-            alloc,
         }
     }
 
@@ -185,14 +186,13 @@ impl Cache {
         self.pool.take(slot)
     }
 
-    /// Takes away all entries. From then on the parent may mean any coins.
+    /// Takes away all entries. From then on the parent may mean any coins. The room that they had stays.
     pub fn clear(&mut self)
-        ensures entries { (self.new.slots ≡ map.empty) × (self.new.changes ≡ []) }
+        ensures cleared { self.new ≡ contents map.empty [] (self.old.spare + map.len self.old.slots) self.old.salt }
         ensures coins { (told : Option Coins) → (means self.new told ≡ told) × StandsOver self.new told }
-        ensures salt { self.new.salt ≡ self.old.salt }
     {
-        self.pool = Pool::new(self.alloc);
-        self.index = Index::new(self.alloc, &self.index.salt());
+        self.pool.clear();
+        self.index.clear();
         self.flags = FlagList::new();
         self.count = 0;
         self.changes = 0;

@@ -6,6 +6,7 @@ ghost use Rattle.base_types.specs.Coins.{Coins, CoinFits};
 ghost use Rattle.base_types.specs.Views.{ViewCounts, AnswersCoin, FindsFault, HasNoCoin, with_coin, without_coin, max_entries};
 ghost use Rattle.coin_cache.specs.Contents.{Entry, entry_without_flag};
 ghost use Rattle.coin_cache.specs.Entries.{IsSound, IsSpent, KeepsEntries, entries_of, changed, is_fresh, means, StandsOver, AddsOnly, counts_over};
+ghost use Rattle.coin_cache.specs.Flags.{ChangesOne};
 
 use crate::cache::Cache;
 use base_types::{Coin, OutPoint, StoreFault, View};
@@ -28,6 +29,7 @@ impl Cache {
     }
 
     // Makes the parent's coin of an outpoint an entry, and answers it.
+    #[tactic(auto, using(crate::proofs::Flags::one_same, crate::proofs::Flags::one_keeps, crate::proofs::Flags::one_after))]
     fn hold(&mut self, key: &OutPoint, coin: Coin) -> Result<Option<Coin>, StoreFault>
         requires free { (s : Slot) (x : Entry) → map.get self.old.slots s ≡ Some x → x.key ≢ key.now }
         requires sound { IsSound self.old }
@@ -36,6 +38,7 @@ impl Cache {
             × (map.len self.new.slots ≡ map.len self.old.slots + 1)) }
         ensures err { OnErr result (KeepsEntries self.old self.new) }
         ensures changes { self.new.changes ≡ self.old.changes }
+        ensures one { ChangesOne key.now self.old self.new }
         ensures cause { IfErr result (λ fault. (fault ≡ StoreFault.NoMemory) ⊎ ((fault ≡ StoreFault.CacheFull) × (max_entries < map.len self.old.slots + 1))) }
     {
         let copy = match coin.copy() {
@@ -51,6 +54,7 @@ impl Cache {
     }
 
     // The coin that the parent has of an outpoint without an entry.
+    #[tactic(auto, using(crate::proofs::Flags::one_same))]
     fn fetch<V: View>(&mut self, under: &mut V, key: &OutPoint) -> Result<Option<Coin>, StoreFault>
         requires free { (s : Slot) (x : Entry) → map.get self.old.slots s ≡ Some x → x.key ≢ key.now }
         requires absent { map.get (entries_of self.old) key.now ≡ None }
@@ -62,6 +66,7 @@ impl Cache {
         ensures stands { StandsOver self.old (V.coins under.old) → StandsOver self.new (V.coins under.new) }
         ensures held { IfOk result (λ coin. IsSome coin → map.contains_key (entries_of self.new) key.now ≡ true) }
         ensures entries { (keys : List OutPoint) → Contains keys key.now → AddsOnly keys self.old self.new }
+        ensures one { ChangesOne key.now self.old self.new }
         ensures changes { self.new.changes ≡ self.old.changes }
         ensures cause { FindsFault 1 (counts_over self.old (V.counts under.old)) (counts_over self.new (V.counts under.new)) result }
         ensures behind { (keys : List OutPoint) → Contains keys key.now → V.behind keys under.old under.new }
@@ -74,6 +79,7 @@ impl Cache {
     }
 
     /// The coin of an outpoint, if there is one, by its entry, or else by the parent, whose coin becomes an entry.
+    #[tactic(auto, using(crate::proofs::Flags::one_same))]
     pub fn get<V: View>(
         &mut self,
         under: &mut V,
@@ -87,6 +93,7 @@ impl Cache {
         ensures hit { map.contains_key (entries_of self.old) key.now ≡ true → (under.new ≡ under.old) × (self.new ≡ self.old) }
         ensures held { IfOk result (λ coin. IsSome coin → map.contains_key (entries_of self.new) key.now ≡ true) }
         ensures entries { (keys : List OutPoint) → Contains keys key.now → AddsOnly keys self.old self.new }
+        ensures one { ChangesOne key.now self.old self.new }
         ensures changes { self.new.changes ≡ self.old.changes }
         ensures cause { FindsFault 1 (counts_over self.old (V.counts under.old)) (counts_over self.new (V.counts under.new)) result }
         ensures behind { (keys : List OutPoint) → Contains keys key.now → V.behind keys under.old under.new }
@@ -98,12 +105,14 @@ impl Cache {
     }
 
     // Makes an outpoint without an entry a spent one, and answers the coin that the parent had.
+    #[tactic(auto, using(crate::proofs::Flags::one_keeps, crate::proofs::Flags::one_after))]
     fn hold_spent(&mut self, key: &OutPoint, coin: Coin) -> Result<Option<Coin>, StoreFault>
         requires free { (s : Slot) (x : Entry) → map.get self.old.slots s ≡ Some x → x.key ≢ key.now }
         requires sound { IsSound self.old }
         ensures ok { IfOk result (λ answer. (answer ≡ Some coin) × (entries_of self.new ≡ map.insert (entries_of self.old) key.now (changed key.now None false))
             × (map.len self.new.slots ≡ map.len self.old.slots + 1)) }
         ensures err { OnErr result (KeepsEntries self.old self.new) }
+        ensures one { ChangesOne key.now self.old self.new }
         ensures cause { IfErr result (λ fault. (fault ≡ StoreFault.NoMemory) ⊎ ((fault ≡ StoreFault.CacheFull) × (max_entries < map.len self.old.slots + 1))) }
     {
         match self.reserve(1) {
@@ -115,6 +124,7 @@ impl Cache {
     }
 
     // Spends the coin that the parent has of an outpoint without an entry.
+    #[tactic(auto, using(crate::proofs::Flags::one_same))]
     fn spend_parent<V: View>(
         &mut self,
         under: &mut V,
@@ -129,6 +139,7 @@ impl Cache {
         ensures parent { V.coins under.new ≡ V.coins under.old }
         ensures stands { StandsOver self.old (V.coins under.old) → StandsOver self.new (V.coins under.new) }
         ensures entries { (keys : List OutPoint) → Contains keys key.now → AddsOnly keys self.old self.new }
+        ensures one { ChangesOne key.now self.old self.new }
         ensures cause { FindsFault 1 (counts_over self.old (V.counts under.old)) (counts_over self.new (V.counts under.new)) result }
         ensures behind { (keys : List OutPoint) → Contains keys key.now → V.behind keys under.old under.new }
     {
@@ -154,6 +165,7 @@ impl Cache {
         ensures hit { map.contains_key (entries_of self.old) key.now ≡ true → (under.new ≡ under.old) × (is_ok result ≡ true) }
         ensures entry { (x : Entry) → map.get (entries_of self.old) key.now ≡ Some x → IsSpent x (entries_of self.old) (entries_of self.new) }
         ensures entries { (keys : List OutPoint) → Contains keys key.now → AddsOnly keys self.old self.new }
+        ensures one { ChangesOne key.now self.old self.new }
         ensures cause { FindsFault 1 (counts_over self.old (V.counts under.old)) (counts_over self.new (V.counts under.new)) result }
         ensures behind { (keys : List OutPoint) → Contains keys key.now → V.behind keys under.old under.new }
     {
@@ -169,6 +181,7 @@ impl Cache {
         ensures coins { (told : Option Coins) → means self.new told ≡ option_map (with_coin result key.now coin) (means self.old told) }
         ensures stands { (told : Option Coins) → (may_overwrite ≡ false → HasNoCoin (means self.old told) key.now) → StandsOver self.old told → StandsOver self.new told }
         ensures entries { (keys : List OutPoint) → Contains keys key.now → AddsOnly keys self.old self.new }
+        ensures one { ChangesOne key.now self.old self.new }
         ensures entry { OnOk result (entries_of self.new ≡ map.insert (entries_of self.old) key.now (changed key.now (Some coin) (is_fresh may_overwrite (map.get (entries_of self.old) key.now)))) }
         ensures err { OnErr result (KeepsEntries self.old self.new) }
         ensures full { IsErrOf result StoreFault.CacheFull ↔ ((map.get (entries_of self.old) key.now ≡ None) × (max_entries < map.len self.old.slots + 1)) }

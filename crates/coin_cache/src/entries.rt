@@ -5,6 +5,7 @@ ghost use Rattle.std.specs.FinMap as map;
 ghost use Rattle.base_types.specs.Coins.{CoinFits};
 ghost use Rattle.coin_cache.specs.Contents.{Entry, entry_without_flag};
 ghost use Rattle.coin_cache.specs.Entries.{IsSound, IsSpent, entries_of, changed, is_fresh};
+ghost use Rattle.coin_cache.specs.Flags.{ChangesOne};
 
 use crate::cache::Cache;
 use base_types::{Coin, OutPoint};
@@ -19,6 +20,7 @@ impl Cache {
         requires fits { CoinFits coin }
         ensures entries { entries_of self.new ≡ map.insert (entries_of self.old) key (entry_without_flag key (Some coin) false) }
         ensures changes { self.new.changes ≡ self.old.changes }
+        ensures one { ChangesOne key self.old self.new }
         ensures count { map.len self.new.slots ≡ map.len self.old.slots + 1 }
     {
         self.put(key, Some(coin), false);
@@ -31,7 +33,7 @@ impl Cache {
         requires sound { IsSound self.old }
         requires fits { IfSome coin CoinFits }
         ensures entries { entries_of self.new ≡ map.insert (entries_of self.old) key (changed key coin fresh) }
-        ensures changes { (s : Slot) × (self.new.changes ≡ self.old.changes ++ s ∷ []) }
+        ensures one { ChangesOne key self.old self.new }
         ensures count { map.len self.new.slots ≡ map.len self.old.slots + 1 }
         ensures room { self.new.spare + 1 ≡ self.old.spare }
         ensures sound { IsSound self.new }
@@ -46,7 +48,7 @@ impl Cache {
         ensures slots { (x : Entry) → map.get self.old.slots slot ≡ Some x → self.new.slots ≡ map.insert self.old.slots slot (record x { dirty = true }) }
         ensures clean { (x : Entry) → map.get self.old.slots slot ≡ Some x → x.dirty ≡ false → self.new.changes ≡ self.old.changes ++ slot ∷ [] }
         ensures dirty { (x : Entry) → map.get self.old.slots slot ≡ Some x → x.dirty ≡ true → self.new.changes ≡ self.old.changes }
-        ensures room { self.new.spare ≡ self.old.spare }
+        ensures room { (self.new.spare ≡ self.old.spare) × (self.new.salt ≡ self.old.salt) }
         ensures sound { (IsSound self.old) × IsSound self.new }
     {
         if !self.entry(slot).dirty {
@@ -60,8 +62,7 @@ impl Cache {
         requires fits { IfSome coin CoinFits }
         ensures coin { (x : Entry) → map.get self.old.slots slot ≡ Some x → result ≡ x.coin }
         ensures entries { (x : Entry) → map.get self.old.slots slot ≡ Some x → entries_of self.new ≡ map.insert (entries_of self.old) x.key (changed x.key coin fresh) }
-        ensures clean { (x : Entry) → map.get self.old.slots slot ≡ Some x → x.dirty ≡ false → self.new.changes ≡ self.old.changes ++ slot ∷ [] }
-        ensures dirty { (x : Entry) → map.get self.old.slots slot ≡ Some x → x.dirty ≡ true → self.new.changes ≡ self.old.changes }
+        ensures one { (x : Entry) → map.get self.old.slots slot ≡ Some x → ChangesOne x.key self.old self.new }
         ensures count { map.len self.new.slots ≡ map.len self.old.slots }
         ensures room { self.new.spare ≡ self.old.spare }
         ensures sound { IsSound self.new }
@@ -75,7 +76,8 @@ impl Cache {
         requires { IsSome (map.get self.old.slots slot) }
         ensures slots { (x : Entry) → map.get self.old.slots slot ≡ Some x → (w : Entry) × (self.new.slots ≡ map.insert self.old.slots slot w) × (w.key ≡ x.key) × (w.coin ≡ x.coin) × (w.dirty ≡ false) }
         ensures changes { (xs ys : List Slot) → self.old.changes ≡ xs ++ slot ∷ ys → self.new.changes ≡ xs ++ ys }
-        ensures room { self.new.spare ≡ self.old.spare }
+        ensures same { (x : Entry) → map.get self.old.slots slot ≡ Some x → x.dirty ≡ false → self.new.changes ≡ self.old.changes }
+        ensures room { (self.new.spare ≡ self.old.spare) × (self.new.salt ≡ self.old.salt) }
         ensures sound { (IsSound self.old) × IsSound self.new }
     {
         if self.entry(slot).dirty {
@@ -89,7 +91,8 @@ impl Cache {
         ensures coin { (x : Entry) → map.get self.old.slots slot ≡ Some x → result ≡ x.coin }
         ensures entries { (x : Entry) → map.get self.old.slots slot ≡ Some x → entries_of self.new ≡ map.remove (entries_of self.old) x.key }
         ensures changes { (xs ys : List Slot) → self.old.changes ≡ xs ++ slot ∷ ys → self.new.changes ≡ xs ++ ys }
-        ensures count { map.len self.new.slots ≤ map.len self.old.slots }
+        ensures one { (x : Entry) → map.get self.old.slots slot ≡ Some x → ChangesOne x.key self.old self.new }
+        ensures count { map.len self.new.slots + 1 ≡ map.len self.old.slots }
         ensures room { self.new.spare ≡ self.old.spare + 1 }
         ensures sound { IsSound self.new }
     {
@@ -98,10 +101,12 @@ impl Cache {
     }
 
     // Spends the coin of an entry, and answers it. A fresh entry is taken out.
+    #[tactic(auto, using(crate::proofs::Flags::one_same))]
     pub(crate) fn spend_entry(&mut self, slot: Slot) -> Option<Coin>
         requires { IsSome (map.get self.old.slots slot) }
         ensures coin { (x : Entry) → map.get self.old.slots slot ≡ Some x → result ≡ x.coin }
         ensures entries { (x : Entry) → map.get self.old.slots slot ≡ Some x → IsSpent x (entries_of self.old) (entries_of self.new) }
+        ensures one { (x : Entry) → map.get self.old.slots slot ≡ Some x → ChangesOne x.key self.old self.new }
         ensures count { map.len self.new.slots ≤ map.len self.old.slots }
     {
         if self.entry(slot).coin.is_none() {

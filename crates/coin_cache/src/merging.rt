@@ -4,8 +4,9 @@ ghost use Rattle.std.specs.Prelude.{◌≡◌, ◌+◌, ◌<◌, ◌≤◌, ◌�
 ghost use Rattle.std.specs.FinMap as map;
 ghost use Rattle.slot_pool.specs.Slots.{IsIn};
 ghost use Rattle.base_types.specs.Coins.{Coins, CoinFits};
-ghost use Rattle.coin_cache.specs.Contents.{Entry};
+ghost use Rattle.coin_cache.specs.Contents.{Entry, contents};
 ghost use Rattle.coin_cache.specs.Entries.{IsSound, IsMerged, IsSettled, changed, entries_of, merged, means, StandsOver, AddsNone};
+ghost use Rattle.coin_cache.specs.Flags.{ChangesOne, flagged, flags_merged};
 
 use crate::cache::Cache;
 use base_types::{Coin, OutPoint};
@@ -18,7 +19,9 @@ impl Cache {
         requires fits { IfSome coin CoinFits }
         ensures entries { (x : Entry) → map.get self.old.slots slot ≡ Some x
             → ((coin ≡ None) × (x.fresh ≡ true) × (entries_of self.new ≡ map.remove (entries_of self.old) x.key)) ⊎ ((coin ≡ None → x.fresh ≡ false) × (entries_of self.new ≡ map.insert (entries_of self.old) x.key (changed x.key coin x.fresh))) }
+        ensures one { (x : Entry) → map.get self.old.slots slot ≡ Some x → ChangesOne x.key self.old self.new }
         ensures room { self.old.spare ≤ self.new.spare }
+        ensures total { self.new.spare + map.len self.new.slots ≡ self.old.spare + map.len self.old.slots }
     {
         let fresh = self.entry(slot).fresh;
         if coin.is_none() && fresh {
@@ -33,7 +36,9 @@ impl Cache {
         requires room { 0 < self.old.spare }
         requires fits { IfSome coin CoinFits }
         ensures entries { IsMerged key coin fresh (entries_of self.old) (entries_of self.new) }
+        ensures one { ChangesOne key self.old self.new }
         ensures room { self.old.spare ≤ self.new.spare + 1 }
+        ensures total { self.new.spare + map.len self.new.slots ≡ self.old.spare + map.len self.old.slots }
     {
         match self.find(&key) {
             Some(slot) => self.merge_into(slot, coin),
@@ -49,7 +54,9 @@ impl Cache {
         ensures self_entries { (x : Entry) → map.get child.old.slots slot ≡ Some x → IsMerged x.key x.coin x.fresh (entries_of self.old) (entries_of self.new) }
         ensures child_entries { (x : Entry) → map.get child.old.slots slot ≡ Some x → entries_of child.new ≡ map.remove (entries_of child.old) x.key }
         ensures changes { (xs ys : List Slot) → child.old.changes ≡ xs ++ slot ∷ ys → child.new.changes ≡ xs ++ ys }
+        ensures one { (x : Entry) → map.get child.old.slots slot ≡ Some x → ChangesOne x.key self.old self.new × ChangesOne x.key child.old child.new }
         ensures room { self.old.spare ≤ self.new.spare + 1 }
+        ensures total { (self.new.spare + map.len self.new.slots ≡ self.old.spare + map.len self.old.slots) × (child.new.spare + map.len child.new.slots ≡ child.old.spare + map.len child.old.slots) }
     {
         let key = child.entry(slot).key;
         let fresh = child.entry(slot).fresh;
@@ -62,7 +69,10 @@ impl Cache {
         requires { length child.old.changes ≤ self.old.spare }
         ensures coins { (told : Option Coins) → StandsOver self.old told → StandsOver child.old (means self.old told)
             → (means self.new told ≡ means child.old (means self.old told)) × StandsOver self.new told }
-        ensures child { (child.new.slots ≡ map.empty) × (child.new.changes ≡ []) }
+        ensures child { child.new ≡ contents map.empty [] (child.old.spare + map.len child.old.slots) child.old.salt }
+        ensures order { flagged self.new ≡ flags_merged (entries_of self.old) (entries_of child.old) (flagged child.old) (flagged self.old) }
+        ensures room { self.new.spare + map.len self.new.slots ≡ self.old.spare + map.len self.old.slots }
+        ensures salt { self.new.salt ≡ self.old.salt }
         ensures each { (key : OutPoint) → map.get (entries_of self.new) key ≡ merged (map.get (entries_of self.old) key) (map.get (entries_of child.old) key) }
         ensures entries { (key : OutPoint) → map.contains_key (entries_of self.new) key ≡ true
             → (map.contains_key (entries_of self.old) key ≡ true) ⊎ ((x : Entry) × (map.get (entries_of child.old) key ≡ Some x)) }
@@ -80,6 +90,7 @@ impl Cache {
         requires sound { IsSound self.old }
         ensures entries { (x : Entry) → map.get self.old.slots slot ≡ Some x → IsSettled x (entries_of self.old) (entries_of self.new) }
         ensures changes { (xs ys : List Slot) → self.old.changes ≡ xs ++ slot ∷ ys → self.new.changes ≡ xs ++ ys }
+        ensures room { (self.new.spare + map.len self.new.slots ≡ self.old.spare + map.len self.old.slots) × (self.new.salt ≡ self.old.salt) }
     {
         if self.entry(slot).coin.is_none() {
             self.remove(slot);
@@ -94,6 +105,8 @@ impl Cache {
         ensures coins { (told : Option Coins) → StandsOver self.old told
             → (means self.new (means self.old told) ≡ means self.old told) × StandsOver self.new (means self.old told) }
         ensures entries { AddsNone self.old self.new }
+        ensures room { self.new.spare + map.len self.new.slots ≡ self.old.spare + map.len self.old.slots }
+        ensures salt { self.new.salt ≡ self.old.salt }
     {
         while let Some(slot) = self.first_change() {
             self.settle(slot);

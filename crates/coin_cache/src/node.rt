@@ -11,9 +11,10 @@ use slot_pool::Slot;
 #[derive(Drop)]
 pub struct Node {
     pub(crate) key: OutPoint,
-    pub(crate) coin: Option<Coin>,
+    // Beside the key, which leaves room for both.
     pub(crate) dirty: bool,
     pub(crate) fresh: bool,
+    pub(crate) coin: Option<Coin>,
     chain: Option<Slot>,
     links: Links,
 }
@@ -25,9 +26,9 @@ impl Node {
     {
         Node {
             key,
-            coin,
             dirty,
             fresh,
+            coin,
             chain: None,
             links: Links {
                 before: None,

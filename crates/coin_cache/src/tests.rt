@@ -2,7 +2,7 @@ ghost use Rattle.base_types.specs.Coins.{CoinFits};
 
 use super::*;
 use base_types::{Coin, OutPoint, Salt, Script, StoreFault, View, hash_twice};
-use std::alloc::Global;
+use std::alloc::{AllocError, Global};
 use std::test::Fail;
 
 const SALT: Salt = Salt {
@@ -54,9 +54,31 @@ fn key_of(number: u32) -> OutPoint {
     }
 }
 
-// A coin of the parent is asked for once, and spent; a child's coins are taken over, and walked.
+// The outpoints of the flagged entries, as the walk gives them.
+fn walk(alloc: Global, cache: &Cache) -> Result<Vec<OutPoint>, AllocError> {
+    let mut keys = Vec::new(alloc);
+    let mut at = cache.first_change();
+    for _ in 0..cache.dirty() {
+        if let Some(slot) = at {
+            keys.push(cache.change(slot).key)?;
+            at = cache.next_change(slot);
+        }
+    }
+    Ok(keys)
+}
+
+// A cache with a coin under a flag at each of these numbers.
+fn cache_of(alloc: Global, salt: &Salt, first: u32, end: u32) -> Result<Cache, StoreFault> {
+    let mut cache = Cache::new(alloc, salt);
+    for number in first..end {
+        cache.add(&key_of(number), coin_of(alloc, number), false)?;
+    }
+    Ok(cache)
+}
+
+// A coin of the parent is asked for once, and spent.
 #[test]
-fn asks_once_and_takes_over_a_child(rt: HostRuntime) -> Result<(), Fail> {
+fn asks_once(rt: HostRuntime) -> Result<(), Fail> {
     let mut under = Counted {
         alloc: rt.alloc(),
         calls: 0,
@@ -72,21 +94,108 @@ fn asks_once_and_takes_over_a_child(rt: HostRuntime) -> Result<(), Fail> {
     );
     assert_eq!(rt; cache.get(&mut under, &key_of(1)), Ok(None));
     assert_eq!(rt; (under.calls, cache.entries(), cache.dirty()), (1, 1, 1));
-    let mut child = Cache::new(rt.alloc(), &SALT);
-    for number in 2..302 {
-        assert!(rt;
-            child
-                .add(&key_of(number), coin_of(rt.alloc(), number), true)
-                .is_ok()
-        );
-    }
-    assert!(rt; cache.reserve(child.dirty()).is_ok());
-    cache.merge(&mut child);
-    assert_eq!(rt;
-        (cache.entries(), cache.dirty(), child.entries()),
-        (301, 301, 0)
-    );
     cache.keep_clean();
-    assert_eq!(rt; (cache.entries(), cache.dirty()), (300, 0));
+    assert_eq!(rt; (cache.entries(), cache.dirty()), (0, 0));
+    Ok(())
+}
+
+// Three hundred entries of a child come in its order, into room that is kept from then on.
+#[test]
+fn walks_in_the_order_of_a_child(rt: HostRuntime) -> Result<(), Fail> {
+    let Ok(mut child) = cache_of(rt.alloc(), &SALT, 0, 300) else {
+        return Err(Fail::from("no memory"));
+    };
+    let mut cache = Cache::new(rt.alloc(), &SALT);
+    assert!(rt; cache.reserve(300).is_ok());
+    if child.dirty() == 300 {
+        cache.merge(&mut child);
+    }
+    assert_eq!(rt;
+        (cache.entries(), child.entries(), child.dirty()),
+        (300, 0, 0)
+    );
+    let keys = walk(rt.alloc(), &cache)?;
+    assert_eq!(rt; keys.len(), 300);
+    for (number, key) in keys.iter().enumerate() {
+        assert_eq!(rt; *key, key_of(number as u32));
+    }
+    Ok(())
+}
+
+// A child's spent entry takes a fresh one away.
+#[test]
+fn forgets_a_fresh_coin_that_a_child_spends(rt: HostRuntime) -> Result<(), Fail> {
+    let mut under = Counted {
+        alloc: rt.alloc(),
+        calls: 0,
+    };
+    let Ok(mut cache) = cache_of(rt.alloc(), &SALT, 1, 2) else {
+        return Err(Fail::from("no memory"));
+    };
+    let mut child = Cache::new(rt.alloc(), &SALT);
+    assert!(rt; child.spend(&mut under, &key_of(1)).is_ok());
+    assert!(rt; cache.reserve(1).is_ok());
+    if child.dirty() == 1 {
+        cache.merge(&mut child);
+    }
+    assert_eq!(rt; (cache.entries(), cache.dirty()), (0, 0));
+    assert!(rt; cache.first_change().is_none());
+    Ok(())
+}
+
+// What is done at an outpoint.
+#[derive(Clone, Copy)]
+enum Call {
+    Get(u32),
+    Add(u32),
+    Spend(u32),
+}
+
+const CALLS: [Call; 8] = [
+    Call::Get(1),
+    Call::Add(2),
+    Call::Spend(1),
+    Call::Get(1),
+    Call::Spend(2),
+    Call::Spend(2),
+    Call::Add(1),
+    Call::Get(1),
+];
+
+// The value of the coin that a call answers; 0 for none, and 1 for a fault.
+fn answer(cache: &mut Cache, under: &mut Counted, call: Call) -> u64 {
+    let answered = match call {
+        Call::Get(number) => cache.get(under, &key_of(number)),
+        Call::Spend(number) => cache.spend(under, &key_of(number)),
+        Call::Add(number) => match cache.add(&key_of(number), coin_of(under.alloc, 9), true) {
+            Ok(()) => Ok(None),
+            Err(fault) => Err(fault),
+        },
+    };
+    match answered {
+        Ok(Some(coin)) => coin.value,
+        Ok(None) => 0,
+        Err(_) => 1,
+    }
+}
+
+fn answers(alloc: Global, salt: &Salt) -> Result<Vec<u64>, AllocError> {
+    let mut under = Counted { alloc, calls: 0 };
+    let mut cache = Cache::new(alloc, salt);
+    let mut values = Vec::new(alloc);
+    for call in CALLS {
+        values.push(answer(&mut cache, &mut under, call))?;
+    }
+    Ok(values)
+}
+
+// No answer hangs on the salt.
+#[test]
+fn answers_alike_with_another_salt(rt: HostRuntime) -> Result<(), Fail> {
+    let expected = [5, 0, 5, 0, 9, 0, 0, 9];
+    let values = answers(rt.alloc(), &SALT)?;
+    assert_eq!(rt; values.as_slice(), expected.as_slice());
+    let values = answers(rt.alloc(), &Salt { a: 0, b: 0 })?;
+    assert_eq!(rt; values.as_slice(), expected.as_slice());
     Ok(())
 }

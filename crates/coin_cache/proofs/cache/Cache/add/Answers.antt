@@ -1,7 +1,9 @@
-use Rattle.std.proofs.Common.{◌≡◌, ◌∙◌, Some, true, false, Bool, not, sym, ap, refl}
+use Rattle.std.proofs.Common.{◌≡◌, ◌∙◌, Some, true, false, Bool, not, sym, ap, refl, subst}
 use Rattle.std.specs.FinMap.{insert}
 use Rattle.coin_cache.specs.Entries.{entries_of, changed, is_fresh}
 use Rattle.coin_cache.proofs.Meanings.{same_entries, add_means, change_stands, fresh_entry, fresh_new, adds_put}
+use Rattle.coin_cache.specs.Flags.{ChangesOne}
+use Rattle.coin_cache.proofs.Flags.{one_keeps, one_after}
 use Rattle.coin_cache.proofs.cache.Cache.add.Goals as goal
 
 not_true : (b : Bool) → not b ≡ true → b ≡ false
@@ -47,3 +49,13 @@ pub returns-in-Ok-clause-entry : goal.returns-in-Ok-clause-entry
 returns-in-Ok-clause-entry c =
     c.set_new.ensures.entries ∙ ap (λ e. insert e c.args.key.now (changed c.args.key.now (Some c.args.coin) (not c.args.may_overwrite))) (same_entries c.args.self.now c.reserve.new.self c.reserve.ensures.entries)
     ∙ ap (λ o. insert (entries_of c.args.self.now) c.args.key.now (changed c.args.key.now (Some c.args.coin) (is_fresh c.args.may_overwrite o))) (sym (c.find.ensures.absent c.in-None.is))
+
+pub returns-in-Some-clause-one : goal.returns-in-Some-clause-one
+returns-in-Some-clause-one c =
+    let x = c.find.ensures.some c.in-Some.slot c.in-Some.is in subst (λ k. ChangesOne k c.args.self.now c.set.new.self) x.2 (c.set.ensures.one x.0 x.1)
+
+pub returns-in-Ok-clause-one : goal.returns-in-Ok-clause-one
+returns-in-Ok-clause-one c = one_after c.args.self.now c.reserve.new.self c.reserve.ensures.entries c.args.key.now c.set_new.new.self c.set_new.ensures.one
+
+pub returns-in-Err-clause-one : goal.returns-in-Err-clause-one
+returns-in-Err-clause-one c = one_keeps c.args.self.now c.reserve.new.self c.reserve.ensures.entries c.args.key.now c.find.ensures.sound

@@ -1,4 +1,4 @@
-use Rattle.std.proofs.Common.{[], is_some, length, sym, ap, subst, ◌∙◌, arith}
+use Rattle.std.proofs.Common.{[], is_some, length, refl, sym, ap, subst, ◌∙◌, arith}
 use Rattle.slot_pool.specs.Slots.{IsIn}
 use Rattle.slot_pool.proofs.SlotLaws.{some_first, empty_first, in_middle}
 use Rattle.coin_cache.specs.Entries.{entries_of}
@@ -7,7 +7,7 @@ use Rattle.coin_cache.proofs.Merges.{settles_none, settles_one, settled_means, s
 use Rattle.coin_cache.proofs.cache.Cache.keep_clean.Goals as goal
 
 pub loop-slot-init : goal.loop-slot-init
-loop-slot-init c = settles_none (entries_of c.args.self.now)
+loop-slot-init c = record { entries = settles_none (entries_of c.args.self.now); room = refl; salt = refl }
 
 pub settle-requires-clause-held : goal.settle-requires-clause-held
 settle-requires-clause-held c =
@@ -28,13 +28,17 @@ pub loop-slot-preserved : goal.loop-slot-preserved
 loop-slot-preserved c =
     let v = some_first c.loop-slot.self.changes c.in-Some.slot (sym c.first_change.ensures.first ∙ c.in-Some.is) in let h = c.first_change.ensures.sound in
     let x = h.dirty c.in-Some.slot (subst (IsIn c.in-Some.slot) (sym v.1) (in_middle [] c.in-Some.slot v.0)) in
-    settles_one (entries_of c.args.self.now) (entries_of c.loop-slot.self) (entries_of c.settle.new.self) x.0 (entry_at c.loop-slot.self h c.in-Some.slot x.0 x.1) c.loop-slot.invariant (c.settle.ensures.entries x.0 x.1)
+    let i = c.loop-slot.invariant in record {
+      entries = settles_one (entries_of c.args.self.now) (entries_of c.loop-slot.self) (entries_of c.settle.new.self) x.0 (entry_at c.loop-slot.self h c.in-Some.slot x.0 x.1) i.entries (c.settle.ensures.entries x.0 x.1);
+      room = c.settle.ensures.room.0 ∙ i.room;
+      salt = c.settle.ensures.room.1 ∙ i.salt;
+    }
 
 pub returns-clause-changes : goal.returns-clause-changes
 returns-clause-changes c = empty_first c.loop-slot.self.changes (sym c.first_change.ensures.first ∙ c.in_default.is)
 
 pub returns-clause-coins : goal.returns-clause-coins
-returns-clause-coins c = settled_means c.args.self.now c.loop-slot.self c.loop-slot.invariant c.first_change.ensures.sound (empty_first c.loop-slot.self.changes (sym c.first_change.ensures.first ∙ c.in_default.is))
+returns-clause-coins c = settled_means c.args.self.now c.loop-slot.self c.loop-slot.invariant.entries c.first_change.ensures.sound (empty_first c.loop-slot.self.changes (sym c.first_change.ensures.first ∙ c.in_default.is))
 
 pub returns-clause-entries : goal.returns-clause-entries
-returns-clause-entries c = settled_adds c.args.self.now c.loop-slot.self c.loop-slot.invariant
+returns-clause-entries c = settled_adds c.args.self.now c.loop-slot.self c.loop-slot.invariant.entries

@@ -8,7 +8,7 @@ pub returns-then-not-entry-clause-clean : goal.returns-then-not-entry-clause-cle
 returns-then-not-entry-clause-clean c = λ x at d. ap (λ (k : Contents). k.changes) (c.flag.ensures.flag x at)
 
 pub returns-then-not-entry-clause-room : goal.returns-then-not-entry-clause-room
-returns-then-not-entry-clause-room c = let x = some_of _ c.requires in ap (λ (k : Contents). k.spare) (c.flag.ensures.flag x.0 x.1)
+returns-then-not-entry-clause-room c = let x = some_of _ c.requires in let v = c.flag.ensures.flag x.0 x.1 in (ap (λ (k : Contents). k.spare) v, ap (λ (k : Contents). k.salt) v)
 
 pub returns-else-not-entry-clause-slots : goal.returns-else-not-entry-clause-slots
 returns-else-not-entry-clause-slots c =

@@ -3,8 +3,9 @@ use Rattle.std.specs.FinMap.{get, insert, len}
 use Rattle.slot_pool.proofs.SlotLaws.{some_of, get_here}
 use Rattle.coin_cache.specs.Contents.{Entry, Contents}
 use Rattle.coin_cache.specs.Entries.{changed}
-use Rattle.coin_cache.proofs.Lookups.{entries_again}
+use Rattle.coin_cache.proofs.Lookups.{entries_again, slots_again}
 use Rattle.coin_cache.proofs.Nodes.{len_over}
+use Rattle.coin_cache.proofs.Flags.{one_set}
 use Rattle.coin_cache.proofs.cache.Cache.set.Goals as goal
 
 pub write-requires-clause-held : goal.write-requires-clause-held
@@ -19,15 +20,13 @@ returns-clause-entries c =
     let both = ap (λ (k : Contents). k.slots) (c.write.ensures.write v (ap (λ m. get m c.args.slot) first ∙ get_here c.args.self.now.slots c.args.slot v)) ∙ ap (λ m. insert m c.args.slot w) first in
     entries_again c.args.self.now c.write.new.self c.mark.ensures.sound.0 c.write.ensures.sound c.args.slot v w both refl (λ y f. let g : Some x ≡ Some y = sym at ∙ f in let one : x ≡ y = cc g in ap (λ (e : Entry). e.key) (sym one))
 
-pub returns-clause-clean : goal.returns-clause-clean
-returns-clause-clean c =
-    λ x at d. let v = record x { dirty = true } in
-    ap (λ (k : Contents). k.changes) (c.write.ensures.write v (ap (λ m. get m c.args.slot) (c.mark.ensures.slots x at) ∙ get_here c.args.self.now.slots c.args.slot v)) ∙ c.mark.ensures.clean x at d
-
-pub returns-clause-dirty : goal.returns-clause-dirty
-returns-clause-dirty c =
-    λ x at d. let v = record x { dirty = true } in
-    ap (λ (k : Contents). k.changes) (c.write.ensures.write v (ap (λ m. get m c.args.slot) (c.mark.ensures.slots x at) ∙ get_here c.args.self.now.slots c.args.slot v)) ∙ c.mark.ensures.dirty x at d
+pub returns-clause-one : goal.returns-clause-one
+returns-clause-one c =
+    λ x at. let s = c.args.slot in let now = c.args.self.now in let v = record x { dirty = true } in let w = changed x.key c.args.coin c.args.fresh in let first = c.mark.ensures.slots x at in
+    let all = c.write.ensures.write v (ap (λ m. get m s) first ∙ get_here now.slots s v) in
+    let both = ap (λ (k : Contents). k.slots) all ∙ ap (λ m. insert m s w) first ∙ slots_again now.slots s v w in
+    one_set now c.write.new.self c.mark.ensures.sound.0 c.write.ensures.sound (ap (λ (k : Contents). k.salt) all ∙ c.mark.ensures.room.1) s x w at both refl refl
+    (λ d. ap (λ (k : Contents). k.changes) all ∙ c.mark.ensures.clean x at d) (λ d. ap (λ (k : Contents). k.changes) all ∙ c.mark.ensures.dirty x at d)
 
 pub returns-clause-count : goal.returns-clause-count
 returns-clause-count c =
@@ -37,4 +36,4 @@ returns-clause-count c =
 pub returns-clause-room : goal.returns-clause-room
 returns-clause-room c =
     let x = some_of _ c.requires.held in let v = record x.0 { dirty = true } in
-    ap (λ (k : Contents). k.spare) (c.write.ensures.write v (ap (λ m. get m c.args.slot) (c.mark.ensures.slots x.0 x.1) ∙ get_here c.args.self.now.slots c.args.slot v)) ∙ c.mark.ensures.room
+    ap (λ (k : Contents). k.spare) (c.write.ensures.write v (ap (λ m. get m c.args.slot) (c.mark.ensures.slots x.0 x.1) ∙ get_here c.args.self.now.slots c.args.slot v)) ∙ c.mark.ensures.room.0

@@ -1,6 +1,7 @@
 use Rattle.std.proofs.Common.{◌≡◌, None, Some, Ok, sym, subst, ◌∙◌}
 use Rattle.coin_cache.specs.Entries.{IsSpent, entries_of}
 use Rattle.coin_cache.proofs.Meanings.{answers_entry, spent_means, spent_stands, spent_adds}
+use Rattle.coin_cache.specs.Flags.{ChangesOne}
 use Rattle.coin_cache.proofs.cache.Cache.spend.Goals as goal
 
 pub returns-in-Some-clause-coin : goal.returns-in-Some-clause-coin
@@ -22,3 +23,7 @@ returns-in-Some-clause-entry g c =
 
 pub returns-in-None-clause-entry : goal.returns-in-None-clause-entry
 returns-in-None-clause-entry g c = λ y at. let e : None ≡ Some y = sym (c.find.ensures.absent c.in-None.is) ∙ at in cc
+
+pub returns-in-Some-clause-one : goal.returns-in-Some-clause-one
+returns-in-Some-clause-one g c =
+    let x = c.find.ensures.some c.in-Some.slot c.in-Some.is in subst (λ k. ChangesOne k c.args.self.now c.spend_entry.new.self) x.2 (c.spend_entry.ensures.one x.0 x.1)

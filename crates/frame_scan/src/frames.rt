@@ -61,6 +61,13 @@ impl Frames {
         })
     }
 
+    /// The offset up to which the scan is done: behind `next` or `next_header`, where the frame ends that it gave.
+    pub fn passed(&self) -> u64
+        ensures { result ≡ self.now.passed }
+    {
+        self.bytes_taken - self.window.as_slice().len() as u64
+    }
+
     /// The block of the next frame; None where the file has ended and no frame is left. It takes the file in pieces of
     /// 64 KiB. Once the file was too long, it stays so.
     pub fn next<H: Host>(&mut self, host: &mut H) -> Result<Option<Block>, FrameFault>

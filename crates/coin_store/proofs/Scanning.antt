@@ -7,7 +7,7 @@ use Rattle.std.proofs.lemmas.List.Sums.{sum_by-append, sum_by-cons, sum_by_more_
 use Rattle.std.proofs.lemmas.Option.{slice_get-get_or}
 use Rattle.base_types.specs.declared.fault.StoreFault.{StoreFault}
 use Rattle.base_types.specs.declared.fault.StoreFault.TheVariants.{NoMemory, DiskFailed, Damaged, Full, CacheFull}
-use Rattle.batch_log.specs.OpenLog.{OpenLog, Stands, places_of}
+use Rattle.batch_log.specs.OpenLog.{OpenLog, places_of}
 use Rattle.batch_log.specs.Records.{body, records}
 use Rattle.batch_log.specs.declared.places.Place.{Place}
 use Rattle.coin_store.specs.declared.kind.Kind.{Kind}

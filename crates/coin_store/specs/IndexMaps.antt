@@ -1,6 +1,6 @@
 -- The index as a finite map, what its hashers begin with, and how many of its entries have no coin.
 use Rattle.std.specs.Prelude.{ℕ, List, map, ◌==◌, if◌then◌else◌, refl}
-use Rattle.std.specs.Coded.{Coded, code_by, coded_ℕ, coded_list, coded×}
+use Rattle.std.specs.Coded.{Coded, code_by, coded_ℕ, coded×}
 use Rattle.std.specs.FinMap.{from_entries, code}
 use Rattle.std.specs.Hash as fed
 use Rattle.std.specs.Hash.DefaultHasher as sip

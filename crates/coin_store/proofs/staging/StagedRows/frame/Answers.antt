@@ -1,4 +1,4 @@
-use Rattle.std.specs.Prelude.{◌≡◌, ◌≤◌, ◌-◌, List, ℕ, [], ◌∷◌, ◌++◌, length, drop}
+use Rattle.std.specs.Prelude.{◌≤◌, ◌-◌, List, ℕ, length, drop}
 use Rattle.std.proofs.Common.{◌∙◌, ap, arith}
 use Rattle.batch_log.specs.Records.{payload_in}
 use Rattle.coin_store.proofs.StagedBytes.{framed_text, pushed}

@@ -59,9 +59,7 @@ fn reason(text: &[u8], why: LineRefused) -> LineRefused
 fn needs_store(text: &[u8]) -> bool
     ensures { result ≡ needs_a_store text.now }
 {
-    text.starts_with(b"headers ")
-        || text.starts_with(b"import ")
-        || text.starts_with(b"gettxout ")
+    text.starts_with(b"headers ") || text.starts_with(b"import ") || text.starts_with(b"gettxout ")
 }
 
 fn serve_line<H: Host>(

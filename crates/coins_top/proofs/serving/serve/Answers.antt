@@ -1,4 +1,3 @@
-use Rattle.coins_top.specs.Serving.{line_asked}
 use Rattle.coins_top.specs.Session.{setting_of}
 use Rattle.coins_top.proofs.ServingLines.{told_fault}
 use Rattle.coins_top.proofs.serving.serve.Goals as goal

@@ -1,1 +1,3 @@
+mod ChainSteps
 mod LogSteps
+mod SnapshotSteps

@@ -14,7 +14,7 @@ use Rattle.block_codec.specs.declared.block.Header.{Header}
 use Rattle.block_store.specs.Headers.{headers_of}
 use Rattle.block_store.specs.Bodies.{body_hash}
 use Rattle.coins_inspect.specs.Lines.{line}
-use Rattle.coins_inspect.specs.Reports.{block_report}
+use Rattle.coins_inspect.specs.Reports.{end_line, block_report}
 use Rattle.coins_inspect.specs.declared.form.Payload.{Payload}
 use Rattle.coins_inspect.specs.declared.form.Payload.TheVariants.{Bytes, Headers, Body}
 
@@ -45,9 +45,6 @@ unfoldable pub records_lines : Payload → List Place → List (List ℕ) → Li
 records_lines kind [] payloads = []
 records_lines kind (place ∷ places) [] = []
 records_lines kind (place ∷ places) (payload ∷ payloads) = record_line place ++ payload_lines kind payload ++ records_lines kind places payloads
-
-unfoldable pub end_line : ℕ → List ℕ
-end_line gate = line (codes "end") (decimal gate ∷ [])
 
 unfoldable pub damaged_line : ℕ → List ℕ
 damaged_line gate = line (codes "damaged") (decimal gate ∷ [])

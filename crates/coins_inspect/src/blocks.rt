@@ -1,16 +1,17 @@
-//! Headers and blocks.
+//! Headers, transactions and blocks.
 
 ghost use Rattle.std.specs.Prelude.{◌≡◌, ◌++◌, OnOk};
 ghost use Rattle.std.specs.List.{flat_map};
-ghost use Rattle.coins_inspect.specs.Reports.{header_report, header_lines, sizes_line, root_line, commitment_line, tx_line, counted_tx_line, block_report};
+ghost use Rattle.coins_inspect.specs.Reports.{header_report, header_lines, sizes_line, root_line, commitment_line, tx_line, counted_tx_line, measures_line, tx_sizes_line, tx_report, block_report};
 
 use crate::names::{block_error, put_fault, truth};
 use crate::words::Word::{Hash, Number, Signed, Text};
 use crate::words::put_line;
 use base_types::{Cursor, Hash32};
 use block_codec::{
-    Block, BlockFault, Header, Tx, block_hash, read_block, read_header, stripped_size, total_size,
-    txid, txids, weight, wtxid,
+    Block, BlockFault, Header, Tx, block_hash, is_coinbase, read_block, read_header, read_tx,
+    stripped_size, stripped_tx_size, total_size, total_tx_size, tx_weight, txid, txids, weight,
+    wtxid,
 };
 use merkle::{commitment, root};
 use std::alloc::{AllocError, Global};
@@ -53,6 +54,60 @@ fn put_header(out: &mut Vec<u8>, header: &Header, end: usize) -> Result<(), Allo
         out,
         "parent",
         &[Hash(header.prev), Text("root"), Hash(header.root)],
+    )
+}
+
+/// A transaction.
+pub(crate) fn tx(alloc: Global, out: &mut Vec<u8>, bytes: &[u8]) -> Result<(), AllocError>
+    ensures { OnOk result (out.new.items ≡ out.old.items ++ tx_report bytes.now) }
+{
+    match read_tx(alloc, bytes) {
+        Ok(tx) => {
+            put_tx(out, &tx)?;
+            put_tx_sizes(out, &tx)
+        }
+        Err(BlockFault::NoMemory) => Err(AllocError),
+        Err(BlockFault::Bad { error, at }) => put_fault(out, block_error(error), at),
+    }
+}
+
+#[tactic(auto, unfolding(crate::specs::Reports::tx_sizes_line))]
+fn put_tx_sizes(out: &mut Vec<u8>, tx: &Tx) -> Result<(), AllocError>
+    ensures { OnOk result (out.new.items ≡ out.old.items ++ tx_sizes_line tx.now) }
+{
+    let coinbase = truth(is_coinbase(tx));
+    put_measures(
+        out,
+        stripped_tx_size(tx),
+        total_tx_size(tx),
+        tx_weight(tx),
+        coinbase,
+    )
+}
+
+#[tactic(auto, unfolding(crate::specs::Reports::measures_line))]
+fn put_measures(
+    out: &mut Vec<u8>,
+    stripped: u64,
+    size: u64,
+    weight: u64,
+    coinbase: &'static str,
+) -> Result<(), AllocError>
+    ensures { OnOk result (out.new.items ≡ out.old.items ++ measures_line stripped size weight coinbase.now) }
+{
+    put_line(
+        out,
+        "sizes",
+        &[
+            Text("stripped"),
+            Number(stripped),
+            Text("size"),
+            Number(size),
+            Text("weight"),
+            Number(weight),
+            Text("coinbase"),
+            Text(coinbase),
+        ],
     )
 }
 

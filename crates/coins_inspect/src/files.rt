@@ -1,34 +1,19 @@
 //! Files of the system, read whole up to a limit.
 
-ghost use Rattle.std.specs.Io.{ReadsAtMost};
-
-use std::fs;
-use std::io::{ErrorKind, Read, Result};
-use std::rt::Files;
+use crate::input_file::read_some;
+use std::alloc::Global;
+use std::fs::File;
+use std::io::Result;
 
 /// How many bytes are read at once.
 const PIECE: usize = 4_096;
 
-/// How often: 256 MiB are read at most.
-const MAX_PIECES: u32 = 65_536;
-
-// Reads again where a signal came between.
-fn read_some<R: Read>(reader: &mut R, buf: &mut [u8]) -> Result<usize>
-    ensures { ReadsAtMost result buf.new }
-{
-    for _ in 0..u64::MAX {
-        match reader.read(buf) {
-            Err(error) if error.kind() == ErrorKind::Interrupted => {}
-            result => return result,
-        }
-    }
-    Ok(0)
-}
+/// How often: 32 MiB are read at most, eight times the greatest block.
+const MAX_PIECES: u32 = 8_192;
 
 /// The bytes of a file, or none where it isn't at its end after so many reads.
-pub(crate) fn read_file<R: Files + AllocGlobal>(system: &R, name: &str) -> Result<Option<Vec<u8>>> {
-    let mut file = fs::open(system, name)?;
-    let mut bytes = Vec::new(system.alloc());
+pub(crate) fn read_file(alloc: Global, mut file: File) -> Result<Option<Vec<u8>>> {
+    let mut bytes = Vec::new(alloc);
     for _ in 0..MAX_PIECES {
         let mut piece = [0; PIECE];
         let count = read_some(&mut file, &mut piece)?;

@@ -5,10 +5,12 @@ ghost use Rattle.std.specs.List.{flat_map};
 ghost use Rattle.disk_model.specs.Disk.{Quiet};
 ghost use Rattle.disk_model.specs.MemDisk.{contents_of};
 ghost use Rattle.batch_log.specs.OpenLog.{Stands};
-ghost use Rattle.coins_inspect.specs.LogReports.{record_line, end_line, damaged_line, IsDamage, stored_header_line, body_report, payload_lines, log_lines, log_report};
+ghost use Rattle.coins_inspect.specs.Reports.{end_line};
+ghost use Rattle.coins_inspect.specs.LogReports.{record_line, damaged_line, IsDamage, stored_header_line, body_report, payload_lines, log_lines, log_report};
 
 use crate::blocks::block;
 use crate::form::Payload;
+use crate::names::put_end;
 use crate::words::Word::{Hash, Number, Text};
 use crate::words::put_line;
 use base_types::{Hash32, Limits, StoreFault};
@@ -19,10 +21,10 @@ use disk_model::{Disk, Image, MemDisk};
 use std::alloc::{AllocError, Global};
 
 /// The number of the one file of a disk in memory.
-const FILE: u32 = 1;
+pub(crate) const FILE: u32 = 1;
 
 /// The most that a log may have.
-const LIMITS: Limits = Limits {
+pub(crate) const LIMITS: Limits = Limits {
     file_bytes: 1 << 63,
     headers: 1,
 };
@@ -93,8 +95,8 @@ fn put_records<D: Disk>(
     put_end(out, end)
 }
 
-// Adds a record, and what its payload means.
-fn put_record<D: Disk>(
+/// Adds a record, and what its payload means. A disk in memory fails for want of memory alone.
+pub(crate) fn put_record<D: Disk>(
     alloc: Global,
     out: &mut Vec<u8>,
     kind: Payload,
@@ -111,7 +113,6 @@ fn put_record<D: Disk>(
     put_place(out, place)?;
     match read_payload(alloc, disk, log, place, 0) {
         Ok(payload) => put_payload(alloc, out, kind, &payload),
-        // A disk in memory fails for want of memory alone.
         Err(_) => Err(AllocError),
     }
 }
@@ -131,15 +132,8 @@ fn put_place(out: &mut Vec<u8>, place: Place) -> Result<(), AllocError>
     )
 }
 
-#[tactic(auto, unfolding(crate::specs::LogReports::end_line))]
-fn put_end(out: &mut Vec<u8>, gate: u64) -> Result<(), AllocError>
-    ensures { OnOk result (out.new.items ≡ out.old.items ++ end_line gate) }
-{
-    put_line(out, "end", &[Number(gate)])
-}
-
 #[tactic(auto, unfolding(crate::specs::LogReports::damaged_line))]
-fn put_damaged(out: &mut Vec<u8>, gate: u64) -> Result<(), AllocError>
+pub(crate) fn put_damaged(out: &mut Vec<u8>, gate: u64) -> Result<(), AllocError>
     ensures { OnOk result (out.new.items ≡ out.old.items ++ damaged_line gate) }
 {
     put_line(out, "damaged", &[Number(gate)])

@@ -3,46 +3,84 @@
 #![tactic(auto)]
 
 mod blocks;
+mod chain;
 mod coins;
 mod files;
 mod form;
+mod frames;
+mod input_file;
+mod log_file;
 mod logs;
 mod names;
 mod numbers;
 mod report;
+mod snapshots;
+mod stream;
 mod words;
 
 use anyhow::Result;
 use files::read_file;
 use form::Form;
+use input_file::InputFile;
 use report::{answer, report};
+use std::fs::File;
 use std::io::Write;
-use words::Word::Text;
-use words::put_line;
+use stream::{print_frames, print_headers, print_log, print_refused, print_snapshot};
 
-// Adds what a file means in the form of this name.
-fn answer_file(rt: &HostRuntime, out: &mut Vec<u8>, form: &str, name: &str) -> Result<()> {
-    let Some(form) = Form::named(form.as_bytes()) else {
-        put_line(out, "refused", &[Text("unknown-form")])?;
-        return Ok(());
-    };
-    match read_file(rt, name) {
-        Ok(Some(bytes)) => report(rt.alloc(), out, form, &bytes)?,
-        Ok(None) => put_line(out, "refused", &[Text("file-too-long")])?,
-        Err(_) => put_line(out, "refused", &[Text("host-fault")])?,
+/// The form of block files, which are scanned and not read whole.
+const FRAMES: &str = "frames";
+
+// Prints what a file of one value means.
+fn print_value(rt: &HostRuntime, form: Form, file: File) -> Result<()> {
+    let mut out = Vec::new(rt.alloc());
+    match read_file(rt.alloc(), file) {
+        Ok(Some(bytes)) => report(rt.alloc(), &mut out, form, &bytes)?,
+        Ok(None) => return print_refused(rt, "file-too-long"),
+        Err(_) => return print_refused(rt, "host-fault"),
     }
+    rt.stdout().write_all(&out)?;
+    Ok(())
+}
+
+// Prints what a file means in the form of this name.
+fn print_file(rt: &HostRuntime, name: &str, path: &str) -> Result<()> {
+    let form = Form::named(name.as_bytes());
+    if form.is_none() && name != FRAMES {
+        return print_refused(rt, "unknown-form");
+    }
+    let Ok(file) = File::open(rt, path) else {
+        return print_refused(rt, "host-fault");
+    };
+    match form {
+        None => print_frames(rt, &mut InputFile::new(file)),
+        Some(Form::Headers) => print_headers(rt, &mut InputFile::new(file)),
+        Some(Form::Snapshot) => print_snapshot(rt, &mut InputFile::new(file)),
+        Some(Form::Log(kind)) => print_log(rt, kind, file),
+        Some(form) => print_value(rt, form, file),
+    }
+}
+
+// Prints the answer to a line.
+fn print_line(rt: &HostRuntime, line: &str) -> Result<()> {
+    if let Some((name, path)) = line.split_once(" file ") {
+        return print_file(rt, name, path);
+    }
+    if let Some((FRAMES, digits)) = line.split_once(' ') {
+        return match hex::decode(rt.alloc(), digits.as_bytes()) {
+            Ok(bytes) => print_frames(rt, &mut InputFile::new(bytes.as_slice())),
+            Err(_) => print_refused(rt, "bad-hexadecimal"),
+        };
+    }
+    let mut out = Vec::new(rt.alloc());
+    answer(rt.alloc(), &mut out, line.as_bytes())?;
+    rt.stdout().write_all(&out)?;
     Ok(())
 }
 
 fn main(rt: HostRuntime) -> Result<()> {
     for line in rt.lines(rt.alloc()) {
         let line = line?;
-        let mut out = Vec::new(rt.alloc());
-        match line.as_str().split_once(" file ") {
-            Some((form, name)) => answer_file(&rt, &mut out, form, name)?,
-            None => answer(rt.alloc(), &mut out, line.as_str().as_bytes())?,
-        }
-        rt.stdout().write_all(&out)?;
+        print_line(&rt, line.as_str())?;
     }
     Ok(())
 }

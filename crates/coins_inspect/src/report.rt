@@ -3,11 +3,13 @@
 ghost use Rattle.std.specs.Prelude.{◌≡◌, ◌==◌, ◌++◌, position, OnOk};
 ghost use Rattle.coins_inspect.specs.LineAnswers.{report_of, lines_for, answer_of};
 
-use crate::blocks::{block, header};
-use crate::coins::{coin, key};
+use crate::blocks::{block, header, tx};
+use crate::chain::headers;
+use crate::coins::{amount, coin, key, script};
 use crate::form::Form;
 use crate::logs::log;
 use crate::numbers::{compact_size, length, varint};
+use crate::snapshots::snapshot;
 use crate::words::Word::Text;
 use crate::words::put_line;
 use hex::FromHexError;
@@ -22,10 +24,15 @@ pub fn report(alloc: Global, out: &mut Vec<u8>, form: Form, bytes: &[u8]) -> Res
         Form::CompactSize => compact_size(out, bytes),
         Form::Varint => varint(out, bytes),
         Form::Length => length(out, bytes),
+        Form::Amount => amount(out, bytes),
+        Form::Script => script(alloc, out, bytes),
         Form::Coin => coin(alloc, out, bytes),
         Form::Key => key(out, bytes),
         Form::Header => header(out, bytes),
+        Form::Headers => headers(alloc, out, bytes),
+        Form::Tx => tx(alloc, out, bytes),
         Form::Block => block(alloc, out, bytes),
+        Form::Snapshot => snapshot(alloc, out, bytes),
         Form::Log(kind) => log(alloc, out, kind, bytes),
     }
 }

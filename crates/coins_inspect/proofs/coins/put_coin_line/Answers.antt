@@ -1,7 +1,7 @@
 use Rattle.std.proofs.Common.{◌≡◌, ◌++◌, ℕ, subst}
 use Rattle.std.specs.Prelude.{OnOk}
 use Rattle.coins_inspect.specs.Reports.{coin_line}
-use Rattle.coins_inspect.proofs.coins.put_amount.Goals as goal
+use Rattle.coins_inspect.proofs.coins.put_coin_line.Goals as goal
 
 pub returns : goal.returns
 unfolding coin_line

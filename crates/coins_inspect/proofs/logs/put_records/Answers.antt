@@ -7,7 +7,8 @@ use Rattle.batch_log.specs.OpenLog.{places_of}
 use Rattle.batch_log.specs.declared.places.Place.{Place}
 use Rattle.block_store.proofs.StoreLaws.{quiet_stands}
 use Rattle.block_store.proofs.HashSteps.{as_many, place_at}
-use Rattle.coins_inspect.specs.LogReports.{record_line, payload_lines, records_lines, end_line}
+use Rattle.coins_inspect.specs.Reports.{end_line}
+use Rattle.coins_inspect.specs.LogReports.{record_line, payload_lines, records_lines}
 use Rattle.coins_inspect.proofs.LogSteps.{one_more, goes_on, none_left, ends_at}
 use Rattle.coins_inspect.proofs.logs.put_records.Goals as goal
 

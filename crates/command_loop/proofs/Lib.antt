@@ -1,0 +1,12 @@
+mod Finishing
+mod LineAnswers
+mod Lines
+mod Meeting
+mod Members
+mod Pieces
+mod ReplyLists
+mod Running
+mod Seeing
+mod Serving
+mod Told
+mod Ways

@@ -1,10 +1,10 @@
 -- The block view is merged into a tip cache in which room was made.
-use Rattle.std.proofs.Common.{◌≡◌, Option, refl, sym, ap, ◌∙◌, subst}
+use Rattle.std.proofs.Common.{◌≡◌, Option, sym, ap, ◌∙◌, subst}
 use Rattle.std.specs.Prelude.{option_map}
 use Rattle.std.specs.FinMap.{empty}
 use Rattle.base_types.specs.Coins.{Coins}
 use Rattle.coin_cache.specs.Contents.{Contents}
-use Rattle.coin_cache.specs.Entries.{AreTrueOf, KeepsEntries, StandsOver, entries_of, laid, means}
+use Rattle.coin_cache.specs.Entries.{AreTrueOf, KeepsEntries, StandsOver, laid, means}
 use Rattle.coin_cache.proofs.Meanings.{means_parent, same_entries}
 use Rattle.coin_views.specs.declared.layers.Layers.{Layers}
 use Rattle.coin_views.specs.Layers.{LayersStand, block_of, tip_of, tip_means, block_means}

@@ -10,6 +10,3 @@ mod tip;
 pub use block_view::BlockView;
 pub use layers::Layers;
 pub use over::Over;
-
-#[cfg(test)]
-mod tests;

@@ -1,7 +1,6 @@
 use Rattle.std.proofs.Common.{rules, ◌≡◌, ◌∷◌, [], refl, sym, ap, ◌∙◌, subst, arith}
-use Rattle.std.specs.Prelude.{option_map}
-use Rattle.base_types.specs.Views.{ViewCounts, FindsFault, without_coin}
-use Rattle.coin_cache.specs.Entries.{StandsOver, counts_over, means}
+use Rattle.base_types.specs.Views.{ViewCounts, FindsFault}
+use Rattle.coin_cache.specs.Entries.{counts_over, means}
 use Rattle.coin_views.specs.Growth.{MayFetch}
 use Rattle.coin_views.proofs.Commits.{stand_through}
 use Rattle.coin_views.proofs.layers.Layers.get.Goals as goal

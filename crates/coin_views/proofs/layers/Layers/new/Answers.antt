@@ -1,4 +1,3 @@
-use Rattle.std.specs.Prelude.{◌≡◌}
 use Rattle.std.proofs.Common.{◌∙◌, ap, sym, subst}
 use Rattle.coin_cache.specs.Entries.{StandsOver, means}
 use Rattle.coin_views.proofs.layers.Layers.new.Goals as goal

@@ -19,10 +19,14 @@ ReadCause file at before now NoMemory = ⊥
 ReadCause file at before now (Full f) = ⊥
 ReadCause file at before now CacheFull = ⊥
 
--- a fact where fewer bytes came than were asked for
-abbrev pub OnShort : StoreFault → Type 0 → Type 0
-OnShort (Damaged f gate) P = P
-OnShort DiskFailed P = ⊤
-OnShort NoMemory P = ⊤
-OnShort (Full f) P = ⊤
-OnShort CacheFull P = ⊤
+-- a fact of the file and the gate, where damage is answered
+abbrev pub WhereDamaged : (ℕ → ℕ → Type 0) → StoreFault → Type 0
+WhereDamaged P (Damaged file at) = P file at
+WhereDamaged P NoMemory = ⊤
+WhereDamaged P DiskFailed = ⊤
+WhereDamaged P (Full file) = ⊤
+WhereDamaged P CacheFull = ⊤
+
+-- and one that names neither
+abbrev pub OnDamaged : StoreFault → Type 0 → Type 0
+OnDamaged fault P = WhereDamaged (λ file at. P) fault

@@ -48,7 +48,7 @@ fn fits(limit: u64, end: u64, growth: u64) -> bool
 impl Log {
     ghost use Rattle.batch_log.specs.OpenLog.{OpenLog, Stands, Knows, Unchanged, SameFile, IsOver, HasRoom, HasRoomInPlace, AppendCause, RoomCause, AllBefore};
     ghost use Rattle.batch_log.specs.Opening.{OpenCause, DamageIn};
-    ghost use Rattle.batch_log.specs.Reading.{ReadAtMost, ReadCause, OnShort};
+    ghost use Rattle.batch_log.specs.Reading.{ReadAtMost, ReadCause, OnDamaged};
 
     /// Opens the log of a file: makes it durable as it reads, and reads the gates and lengths of its records. A file of
     /// at most one byte becomes an empty log of one closed gate. `Damaged` names the open gate whose record isn't whole.
@@ -280,7 +280,7 @@ impl Log {
         ensures bytes { Told (D.contents disk.old) (λ m. OnOk result (buf.new ≡ take place.len (drop (place.at + 5) (m self.now.file)))) }
         ensures payload { (payloads : List (List ℕ)) (i : ℕ) (payload : List ℕ) → Stands (D.contents disk.old) (D.left_since disk.old (D.time disk.old)) self.now payloads
             → slice_get self.now.places i ≡ Some place → slice_get payloads i ≡ Some payload → OnOk result (buf.new ≡ payload) × IfErr result (λ e. e ≡ Failed) }
-        ensures short { Told (D.contents disk.old) (λ m. MatchResult result (λ _. place.len ≤ length (m self.now.file) - (place.at + 5)) (λ e. OnShort e (length (m self.now.file) - (place.at + 5) < place.len))) }
+        ensures short { Told (D.contents disk.old) (λ m. MatchResult result (λ _. place.len ≤ length (m self.now.file) - (place.at + 5)) (λ e. OnDamaged e (length (m self.now.file) - (place.at + 5) < place.len))) }
         ensures cause { IfErr result (ReadCause self.now.file place.at (D.faults disk.old) (D.faults disk.new)) }
         ensures faults { D.faults disk.old ≤ D.faults disk.new }
         ensures contents { D.contents disk.new ≡ D.contents disk.old }
@@ -307,7 +307,7 @@ impl Log {
             → slice_get self.now.places i ≡ Some place → slice_get payloads i ≡ Some payload
             → OnOk result (buf.new ≡ take (length buf.old) (drop from payload)) × IfErr result (λ e. e ≡ Failed) }
         ensures short { Told (D.contents disk.old) (λ m. MatchResult result
-            (λ _. length buf.old ≤ length (m self.now.file) - (place.at + 5 + from)) (λ e. OnShort e (length (m self.now.file) - (place.at + 5 + from) < length buf.old))) }
+            (λ _. length buf.old ≤ length (m self.now.file) - (place.at + 5 + from)) (λ e. OnDamaged e (length (m self.now.file) - (place.at + 5 + from) < length buf.old))) }
         ensures cause { IfErr result (ReadCause self.now.file place.at (D.faults disk.old) (D.faults disk.new)) }
         ensures faults { D.faults disk.old ≤ D.faults disk.new }
         ensures contents { D.contents disk.new ≡ D.contents disk.old }

@@ -5,6 +5,7 @@ use Rattle.base_types.specs.Views.{BrokenPlace}
 use Rattle.base_types.specs.declared.fault.StoreFault.{StoreFault}
 use Rattle.base_types.specs.declared.fault.StoreFault.TheVariants.{NoMemory, DiskFailed, Damaged, Full, CacheFull}
 use Rattle.disk_model.specs.Disk.{Image, BothTold, Rose}
+use Rattle.batch_log.specs.Reading.{WhereDamaged}
 use Rattle.batch_log.specs.Records.{log}
 use Rattle.batch_log.specs.OpenLog.{places_of}
 use Rattle.batch_log.specs.declared.places.Place.{Place}
@@ -56,11 +57,7 @@ pub record OpensAs (before : Image) (contents : Option Image) (left : Image → 
 
 -- where damage is answered, it is this
 abbrev pub DamagedAs : {A : Type 0} → Result A BrokenPlace → StoreFault → Type 0
-DamagedAs found (Damaged file at) = found ≡ Err (record { file = file; at = at })
-DamagedAs found NoMemory = ⊤
-DamagedAs found DiskFailed = ⊤
-DamagedAs found (Full file) = ⊤
-DamagedAs found CacheFull = ⊤
+DamagedAs found fault = WhereDamaged (λ file at. found ≡ Err (record { file = file; at = at })) fault
 
 -- why a store may not be opened
 abbrev pub OpenCause : ℕ → ℕ → StoreFault → Type 0

@@ -21,14 +21,6 @@ whole_part place from bytes = if length (part_of place from bytes) == place.len 
 abbrev pub block_there : Place → List ℕ → Option Block
 block_there place bytes = option_and_then (λ text. result_ok (block_of text)) (whole_part place 32 bytes)
 
--- a fact where damage is answered
-abbrev pub OnDamaged : StoreFault → Type 0 → Type 0
-OnDamaged (Damaged file at) P = P
-OnDamaged NoMemory P = ⊤
-OnDamaged DiskFailed P = ⊤
-OnDamaged (Full file) P = ⊤
-OnDamaged CacheFull P = ⊤
-
 -- why a record may not be read
 abbrev pub FetchCause : ℕ → ℕ → ℕ → ℕ → StoreFault → Type 0
 FetchCause file gate before now NoMemory = ⊤

@@ -4,11 +4,11 @@ ghost use Rattle.std.specs.Prelude.{◌≡◌, ◌-◌, ◌≤◌, ℕ, Contains
 ghost use Rattle.std.specs.Option.{option_and_then};
 ghost use Rattle.disk_model.specs.Disk.{Quiet, Told};
 ghost use Rattle.batch_log.specs.OpenLog.{Stands};
-ghost use Rattle.batch_log.specs.Reading.{ReadAtMost};
+ghost use Rattle.batch_log.specs.Reading.{OnDamaged, ReadAtMost};
 ghost use Rattle.block_codec.specs.Text.{text_of};
 ghost use Rattle.block_store.specs.Headers.{headers_of, is_headers_length};
 ghost use Rattle.block_store.specs.Bodies.{body_of};
-ghost use Rattle.block_store.specs.Reading.{whole_part, block_there, OnDamaged, FetchCause, NoDamage};
+ghost use Rattle.block_store.specs.Reading.{whole_part, block_there, FetchCause, NoDamage};
 
 use crate::header_list::HeaderRecord;
 use crate::payload_kind::{HASH_LEN, PayloadKind};

@@ -5,12 +5,12 @@ ghost use Rattle.std.specs.Option.{option_and_then};
 ghost use Rattle.disk_model.specs.Disk.{At, Torn, Leaves, Quiet, Told, OthersKept};
 ghost use Rattle.base_types.specs.declared.fault.StoreFault.TheVariants.{DiskFailed as Failed, NoMemory, Full};
 ghost use Rattle.batch_log.specs.Records.{SameLog, StartsWith, WithOrWithout};
-ghost use Rattle.batch_log.specs.Reading.{ReadAtMost};
+ghost use Rattle.batch_log.specs.Reading.{OnDamaged, ReadAtMost};
 ghost use Rattle.batch_log.specs.declared.places.Place.{Place};
 ghost use Rattle.block_codec.specs.Text.{text_of};
 ghost use Rattle.block_store.specs.Headers.{headers_text, headers_of};
 ghost use Rattle.block_store.specs.Bodies.{body_text, body_hash, body_of};
-ghost use Rattle.block_store.specs.Reading.{whole_part, block_there, OnDamaged, FetchCause, NoDamage, ReadBoth};
+ghost use Rattle.block_store.specs.Reading.{whole_part, block_there, FetchCause, NoDamage, ReadBoth};
 
 use crate::body_index::BodyIndex;
 use crate::header_list::HeaderRecord;

@@ -17,7 +17,7 @@ use Rattle.coin_store.specs.declared.store.Marked.{Marked}
 use Rattle.coin_store.specs.Base.{BaseFits, base_of, base_texts, places_after_base}
 use Rattle.coin_store.specs.Batches.{Row, Batch, rows_text, batch_text, BatchFits}
 use Rattle.coin_store.specs.BatchReads.{HasBatch, HasBaseRows, HasPayload, IsNoPayload}
-use Rattle.coin_store.specs.Files.{WhereDamaged}
+use Rattle.batch_log.specs.Reading.{WhereDamaged}
 use Rattle.coin_store.specs.Opening.{HasBatches, HasBase, HasPayloads, marked_at, IsDamagedAt}
 use Rattle.coin_store.specs.Places.{CoinPlaces, places_after_rows, places_after, places_after_batch}
 use Rattle.coin_store.specs.Reading.{batch_of}

@@ -32,14 +32,6 @@ FilesCause IsFile before now (Damaged file at) = IsFile file
 FilesCause IsFile before now (Full file) = ⊥
 FilesCause IsFile before now CacheFull = ⊥
 
--- a fact of the file and the gate, where damage is answered
-abbrev pub WhereDamaged : (ℕ → ℕ → Type 0) → StoreFault → Type 0
-WhereDamaged P (Damaged file at) = P file at
-WhereDamaged P NoMemory = ⊤
-WhereDamaged P DiskFailed = ⊤
-WhereDamaged P (Full file) = ⊤
-WhereDamaged P CacheFull = ⊤
-
 -- ---- what is read
 
 -- of a log: five bytes more than it has, or five of one that has at most one byte

@@ -9,7 +9,7 @@ use Rattle.coin_store.specs.declared.marker.Marker.{Marker}
 use Rattle.coin_store.specs.declared.store.Marked.{Marked}
 use Rattle.coin_store.specs.Base.{BaseFits, base_texts, places_after_base}
 use Rattle.coin_store.specs.Batches.{Row, Batch, BatchFits}
-use Rattle.coin_store.specs.Files.{WhereDamaged}
+use Rattle.batch_log.specs.Reading.{WhereDamaged}
 use Rattle.coin_store.specs.Places.{CoinPlaces, places_after}
 use Rattle.coin_store.specs.Store.{marks, texts, FirstBrokenAs, DamagedAs}
 

@@ -18,7 +18,7 @@ use Rattle.coin_store.specs.declared.store.CoinStore.{CoinStore}
 use Rattle.coin_store.specs.declared.store.Marked.{Marked}
 use Rattle.coin_store.specs.Base.{BaseFits, base_of, base_texts, base_places as places_in_base, IsBase}
 use Rattle.coin_store.specs.Batches.{Row, Batch, rows_text, batch_text, BatchFits}
-use Rattle.coin_store.specs.Files.{WhereDamaged}
+use Rattle.batch_log.specs.Reading.{WhereDamaged}
 use Rattle.coin_store.specs.Places.{places_after, live}
 use Rattle.coin_store.specs.Reading.{batch_of}
 

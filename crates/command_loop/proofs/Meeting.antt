@@ -20,14 +20,13 @@ use Rattle.machine.specs.Steps.{Did}
 use Rattle.machine.specs.Courses.{whole, replies_of, text_of, events_of}
 use Rattle.machine.specs.Runs.{Run}
 use Rattle.machine.specs.Tips.{AllSettled, OfEach, AsAtEntry, IsAfterSome}
-use Rattle.machine.specs.Calls.{Call, IsOpening, IsOpenedRun, opened_at}
+use Rattle.machine.specs.Calls.{Call, FailsToOpen, IsOpening, IsOpenedRun, opened_at}
 use Rattle.machine.specs.Clauses.{IsRun, AfterOpening, InOrder}
 use Rattle.machine.specs.Answers.{IsPrefix, Answers, FoundIn, name_of, flushes_of, told_flushes, flushes_told_by, flushes_with_lines, whole_replies, comes_before, needs_opening}
 use Rattle.machine.specs.Work.{call_between}
 use Rattle.machine.proofs.FlushLists.{prefix_more}
 use Rattle.machine.proofs.Opening.{opened_run, opened_all}
 use Rattle.command_loop.specs.Points.{Outer, Point, now_of}
-use Rattle.command_loop.specs.ServerCalls.{FailsToOpen}
 use Rattle.command_loop.specs.Ending.{Takes, Finish}
 use Rattle.command_loop.proofs.ReplyLists.{whole_more}
 use Rattle.command_loop.proofs.Ways.{replies_of-append, text_of-append}

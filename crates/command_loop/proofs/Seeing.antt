@@ -10,7 +10,7 @@ use Rattle.machine.specs.declared.report.Opened.{Opened}
 use Rattle.machine.specs.declared.report.Opened.TheVariants.{Not, Yes}
 use Rattle.machine.specs.declared.report.Report.{Report}
 use Rattle.machine.specs.Answers.{found_of, needs_opening, comes_before}
-use Rattle.machine.specs.Calls.{opened_at}
+use Rattle.machine.specs.Calls.{FailsToOpen, opened_at}
 use Rattle.machine.specs.Clauses.{IsRun}
 use Rattle.machine.specs.Runs.{Run}
 use Rattle.machine.specs.State.{Setting, State, begins}
@@ -21,7 +21,7 @@ use Rattle.command_loop.specs.declared.server.FoundStore.{FoundStore}
 use Rattle.command_loop.specs.Ending.{AnswersInput}
 use Rattle.command_loop.specs.Points.{Standing, Outer, Point, IsOuter, At}
 use Rattle.command_loop.specs.Seen.{Outside, IsSeen}
-use Rattle.command_loop.specs.ServerCalls.{OpensStore, FailsToOpen}
+use Rattle.command_loop.specs.ServerCalls.{OpensStore}
 use Rattle.command_loop.proofs.Meeting.{run_of, meets_run, meets_unopened, nothing_more, cancel, same_some, same_taken, none_taken}
 
 module _ {D : Type 0} (time : D → ℕ) (contents : D → Option Image) (left_since : D → ℕ → Image → Type 0)

@@ -15,12 +15,10 @@ use Rattle.command_text.specs.declared.line.LineRefused.{LineRefused}
 use Rattle.store_state.specs.Breaks.{IsBroken}
 use Rattle.store_state.specs.Roles.{full_of, snapshot_of}
 use Rattle.store_state.specs.State.{StoreState}
-use Rattle.machine.specs.declared.report.Opened.TheVariants.{Not}
 use Rattle.machine.specs.Answers.{found_of}
 use Rattle.machine.specs.Calls.{IsOpening, IsOpen}
 use Rattle.machine.specs.State.{Setting, State, begins}
 use Rattle.machine.specs.Steps.{Now, Did, Step, at_end}
-use Rattle.machine.specs.Tips.{AllSettled, StaysSettled, OfEach, AsAtEntry}
 use Rattle.machine.specs.Work.{Moment, IsMoment, WorkDone, WorkCut}
 use Rattle.command_loop.specs.declared.settings.RunSettings.{RunSettings}
 use Rattle.command_loop.specs.declared.server.FoundStore.{FoundStore}
@@ -51,12 +49,6 @@ pub record OpensStore (setting : Setting) (past left : ℕ → Image → Type 0)
   pub snapshot : found.snapshot ≡ option_map found_of (snapshot_of from.active from.role)
   pub is_open : IsOpen setting.limit setting.given (left ended) after on
   pub stood : stands now (left ended) (begins from) on
-
--- an opening that failed leaves what was there
-pub record FailsToOpen (limit : ℕ) (given : Rules) (past left : ℕ → Image → Type 0) (entered ended : ℕ) : Type 0 where
-  pub later : entered ≤ ended
-  pub settled : StaysSettled limit given (past entered) left entered
-  pub leaves : AllSettled limit given (past entered) → OfEach limit given left entered ended (λ t store. AsAtEntry limit given (past entered) Not t store)
 
 -- ---- faults
 

@@ -9,10 +9,11 @@ ghost use Rattle.io_traits.specs.Host.{Held};
 ghost use Rattle.command_text.specs.Lines.{line_of};
 ghost use Rattle.store_state.specs.State.{StoreState};
 ghost use Rattle.machine.specs.Answers.{file_begun};
+ghost use Rattle.machine.specs.Calls.{FailsToOpen};
 ghost use Rattle.machine.specs.State.{State};
 ghost use Rattle.machine.specs.Work.{Moment, IsMoment};
 ghost use Rattle.command_loop.specs.Points.{IsOpenAt};
-ghost use Rattle.command_loop.specs.ServerCalls.{setting_of, AreInRange, OpensStore, FailsToOpen, status_of_fault, IsCaused, IsDamage, WorkServed, WorkStopped, LineDoes, EndDoes};
+ghost use Rattle.command_loop.specs.ServerCalls.{setting_of, AreInRange, OpensStore, status_of_fault, IsCaused, IsDamage, WorkServed, WorkStopped, LineDoes, EndDoes};
 ghost use Rattle.command_loop.specs.declared.settings.RunSettings.{RunSettings as SettingsOfRun};
 
 use crate::settings::RunSettings;

@@ -104,6 +104,12 @@ pub record IsOpening (limit : ℕ) (given : Rules) (past left : ℕ → Image �
   pub leaves : AllSettled limit given (past call.entered) → OfEach limit given left call.entered call.ended (λ t store. AsAtEntry limit given (past call.entered) Not t store)
   pub same : stored_in on ≡ stored_in from
 
+-- an opening that failed leaves what was there
+pub record FailsToOpen (limit : ℕ) (given : Rules) (past left : ℕ → Image → Type 0) (entered ended : ℕ) : Type 0 where
+  pub later : entered ≤ ended
+  pub settled : StaysSettled limit given (past entered) left entered
+  pub leaves : AllSettled limit given (past entered) → OfEach limit given left entered ended (λ t store. AsAtEntry limit given (past entered) Not t store)
+
 abbrev pub opened_at : Call → StoreState → Opened
 opened_at call from = Yes call.ended (option_map found_of (full_of from.active from.role)) (option_map found_of (snapshot_of from.active from.role))
 

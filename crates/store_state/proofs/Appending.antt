@@ -198,7 +198,7 @@ passes_still : {A : Type 0} (file : ℕ) (test wider : A → Bool) → ((a : A) 
 passes_still file test wider weaker records e =
     subst (λ (xs : List (Record _)). each_passes file wider xs ≡ Ok xs) (no_more records) (passes_more file test wider weaker records records [] e (none_passes file wider))
 
-tree_more : (limit : ℕ) (first : Tree) (lists : List (Record (List Header))) (middle : Tree) (gate : ℕ) (headers : List Header) (last : Tree) → tree_after limit first lists ≡ Ok middle → tree_with limit middle headers ≡ Some last
+pub tree_more : (limit : ℕ) (first : Tree) (lists : List (Record (List Header))) (middle : Tree) (gate : ℕ) (headers : List Header) (last : Tree) → tree_after limit first lists ≡ Ok middle → tree_with limit middle headers ≡ Some last
     → tree_after limit first (lists ++ (gate, headers) ∷ []) ≡ Ok last
 unfolding tree_after
 tree_more limit first [] middle gate headers last e is =

@@ -2,7 +2,7 @@
 use Rattle.std.proofs.Common.{◌≡◌, ◌≤◌, ◌+◌, ◌-◌, ◌<◌, ℕ, List, length, take, drop, arith, subst}
 use Rattle.std.specs.Prelude.{MatchResult, OnOk}
 use Rattle.std.proofs.lemmas.List.{take_all}
-use Rattle.batch_log.specs.Reading.{OnShort}
+use Rattle.batch_log.specs.Reading.{OnDamaged}
 use Rattle.batch_log.proofs.PayloadBytes.{payload_read}
 use Rattle.batch_log.proofs.gated_log.Log.read.Goals as goal
 
@@ -24,6 +24,6 @@ returns-clause-payload g c payloads i payload stands there here =
 pub returns-clause-short : goal.returns-clause-short
 returns-clause-short g c m told =
     let start : c.args.place.at + 5 + 0 ≡ c.args.place.at + 5 = omega arith in
-    subst (λ (k : ℕ). MatchResult c.read_part.result (λ x. c.args.place.len ≤ length (m c.args.self.now.file) - k) (λ e. OnShort e (length (m c.args.self.now.file) - k < c.args.place.len))) start
-    (subst (λ (n : ℕ). MatchResult c.read_part.result (λ x. n ≤ length (m c.args.self.now.file) - (c.args.place.at + 5 + 0)) (λ e. OnShort e (length (m c.args.self.now.file) - (c.args.place.at + 5 + 0) < n))) c.requires.whole
+    subst (λ (k : ℕ). MatchResult c.read_part.result (λ x. c.args.place.len ≤ length (m c.args.self.now.file) - k) (λ e. OnDamaged e (length (m c.args.self.now.file) - k < c.args.place.len))) start
+    (subst (λ (n : ℕ). MatchResult c.read_part.result (λ x. n ≤ length (m c.args.self.now.file) - (c.args.place.at + 5 + 0)) (λ e. OnDamaged e (length (m c.args.self.now.file) - (c.args.place.at + 5 + 0) < n))) c.requires.whole
     (c.read_part.ensures.short m told))

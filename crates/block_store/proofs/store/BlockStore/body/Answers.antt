@@ -2,7 +2,8 @@ use Rattle.std.proofs.Common.{◌≡◌, None, subst}
 use Rattle.std.specs.Prelude.{MatchResult, IsSomeAnd}
 use Rattle.batch_log.specs.declared.places.Place.{Place}
 use Rattle.block_codec.specs.Text.{text_of}
-use Rattle.block_store.specs.Reading.{whole_part, block_there, OnDamaged}
+use Rattle.batch_log.specs.Reading.{OnDamaged}
+use Rattle.block_store.specs.Reading.{whole_part, block_there}
 use Rattle.block_store.proofs.Lookups.{same_place}
 use Rattle.block_store.proofs.store.BlockStore.body.Goals as goal
 

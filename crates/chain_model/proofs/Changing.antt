@@ -34,7 +34,7 @@ not_equal Equal t = absurd t
 not_equal Greater t = absurd t
 
 -- a key below all others is none of them
-absent : (key : OutPoint) (es : List (OutPoint × Option Coin)) → T (below_all outpoint_cmp key es) → find outpoint_cmp key es ≡ None
+pub absent : {X : Type 0} (key : OutPoint) (es : List (OutPoint × X)) → T (below_all outpoint_cmp key es) → find outpoint_cmp key es ≡ None
 absent key [] below = refl
 absent key (e ∷ es) below =
     let parts = both_true (is_lt (outpoint_cmp key e.0)) (below_all outpoint_cmp key es) below in

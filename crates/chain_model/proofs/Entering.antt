@@ -1,52 +1,119 @@
--- Inputs that leave the coins one by one, and outputs that enter them.
-use Rattle.std.proofs.Common.{◌≡◌, ◌<◌, ◌+◌, ℕ, List, ◌∷◌, length, drop, get_or, Bool, true, false, cond, Some, None, sym, ap, ◌∙◌, add-one}
-use Rattle.std.specs.Prelude.{fold, filter}
-use Rattle.std.proofs.lemmas.List.{at_drop_more}
-use Rattle.std.specs.FinMap.{insert}
-use Rattle.base_types.specs.Coins.{Coins}
+-- Outputs that enter the coins one by one.
+use Rattle.std.proofs.Common.{◌≡◌, ◌<◌, ◌≤◌, ◌+◌, ◌*◌, ℕ, suc, List, [], ◌∷◌, length, drop, get_or, map, Bool, true, false, cond, Option, Some, None, refl, sym, ap, subst, ◌∙◌, ◌^◌, pos, add-one, arith}
+use Rattle.std.specs.Prelude.{◌||◌, Contains, All, fold, filter, not, nat_eq, nat_lt, option_map}
+use Rattle.std.proofs.lemmas.List.{at_drop_more, at_drop_all}
+use Rattle.std.proofs.lemmas.Bool.{ltb-false}
+use Rattle.std.specs.FinMap.{insert, remove}
+use Rattle.std.specs.List.{starts_with}
+use Rattle.base_types.specs.Coins.{Coins, CoinFits}
+use Rattle.base_types.specs.Parameters.{max_money, max_script_size}
 use Rattle.base_types.specs.declared.hash.Hash32.{Hash32}
 use Rattle.base_types.specs.declared.hash.OutPoint.{OutPoint}
+use Rattle.base_types.specs.declared.coin.Coin.{Coin}
 use Rattle.base_types.specs.declared.coin.TxOut.{TxOut}
-use Rattle.block_codec.specs.declared.block.TxIn.{TxIn}
 use Rattle.block_codec.specs.declared.block.Tx.{Tx}
-use Rattle.chain_model.specs.Coins.{is_spendable, numbered, coin_of, without}
-use Rattle.chain_model.specs.Changes.{Changes, with_changes}
-use Rattle.chain_model.proofs.Changing.{with_one_more}
+use Rattle.chain_model.specs.Coins.{is_spendable, output_value, numbered, coin_of, with_outputs}
+use Rattle.chain_model.specs.Editing.{Among}
 
--- ---- inputs
+-- the outputs from one on that can be spent
+abbrev pub left_from : Hash32 → ℕ → List TxOut → List (OutPoint × TxOut)
+left_from txid i outputs = filter (λ named. is_spendable named.1) (numbered txid i (drop i outputs))
 
-pub input_left : (inputs : List TxIn) (i : ℕ) (input : TxIn) (old new : Changes) (coins : Coins) → i < length inputs → input ≡ get_or inputs i input → new ≡ insert old input.prev None → without (drop (i + 1) inputs) (with_changes new coins) ≡ without (drop i inputs) (with_changes old coins)
-input_left inputs i input old new coins h is next =
-    ap (λ (changes : Changes). without (drop (i + 1) inputs) (with_changes changes coins)) next
-    ∙ ap (λ (left : Coins). without (drop (i + 1) inputs) left) (with_one_more old coins input.prev None)
-    ∙ ap (λ (n : TxIn). without (n ∷ drop (i + 1) inputs) (with_changes old coins)) is
-    ∙ sym (at_drop_more (λ (rest : List TxIn). without rest (with_changes old coins)) inputs i input h)
-
--- ---- outputs
-
--- the coins with those of these outputs that can be spent
+-- the coins with them
 abbrev pub entered : ℕ → Tx → List (OutPoint × TxOut) → Coins → Coins
-entered at tx outputs coins = fold (λ all named. insert all named.0 (coin_of at tx named.1)) coins (filter (λ named. is_spendable named.1) outputs)
+entered at tx outputs coins = fold (λ all named. insert all named.0 (coin_of at tx named.1)) coins outputs
 
--- the outputs from one on
-abbrev pub from : ℕ → Tx → Hash32 → List TxOut → ℕ → Coins → Coins
-from at tx txid outputs i coins = entered at tx (numbered txid i (drop i outputs)) coins
+module _ (txid : Hash32) (outputs : List TxOut) (i : ℕ) (output : TxOut) (within : i < length outputs) (is : output ≡ get_or outputs i output) (key : OutPoint) (named : key ≡ record { txid = txid; index = i }) where
+  numbered_here : {A : Type 0} (f : List (OutPoint × TxOut) → A) → f (numbered txid i (drop i outputs)) ≡ f ((key, output) ∷ numbered txid (i + 1) (drop (i + 1) outputs))
+  numbered_here f =
+      at_drop_more (λ (rest : List TxOut). f (numbered txid i rest)) outputs i output within
+      ∙ ap (λ (o : TxOut). f (numbered txid i (o ∷ drop (i + 1) outputs))) (sym is)
+      ∙ ap (λ (n : ℕ). f ((record { txid = txid; index = i }, output) ∷ numbered txid n (drop (i + 1) outputs))) (sym (add-one i))
+      ∙ ap (λ (k : OutPoint). f ((k, output) ∷ numbered txid (i + 1) (drop (i + 1) outputs))) (sym named)
 
-module _ (at : ℕ) (tx : Tx) (txid : Hash32) (outputs : List TxOut) (i : ℕ) (output : TxOut) (within : i < length outputs) (is : output ≡ get_or outputs i output) where
-  step : (coins : Coins) → from at tx txid outputs i coins ≡ entered at tx ((record { txid = txid; index = i }, output) ∷ numbered txid (i + 1) (drop (i + 1) outputs)) coins
-  step coins =
-      at_drop_more (λ (rest : List TxOut). entered at tx (numbered txid i rest) coins) outputs i output within
-      ∙ ap (λ (o : TxOut). entered at tx (numbered txid i (o ∷ drop (i + 1) outputs)) coins) (sym is)
-      ∙ ap (λ (n : ℕ). entered at tx ((record { txid = txid; index = i }, output) ∷ numbered txid n (drop (i + 1) outputs)) coins) (sym (add-one i))
+  left_here : {A : Type 0} (f : List (OutPoint × TxOut) → A) (b : Bool) → is_spendable output ≡ b → f (left_from txid i outputs) ≡ f (cond b ((key, output) ∷ left_from txid (i + 1) outputs) (left_from txid (i + 1) outputs))
+  left_here f b e =
+      numbered_here (λ (all : List (OutPoint × TxOut)). f (filter (λ n. is_spendable n.1) all))
+      ∙ ap (λ (t : Bool). f (cond t ((key, output) ∷ left_from txid (i + 1) outputs) (left_from txid (i + 1) outputs))) e
 
-  pub output_skipped : (coins : Coins) → is_spendable output ≡ false → from at tx txid outputs (i + 1) coins ≡ from at tx txid outputs i coins
-  output_skipped coins unspendable = sym (step coins ∙ ap (λ (b : Bool). fold (λ all named. insert all named.0 (coin_of at tx named.1)) coins (cond b ((record { txid = txid; index = i }, output) ∷ rest) rest)) unspendable)
+  pub count_here : (b : Bool) → is_spendable output ≡ b → length (left_from txid i outputs) ≡ cond b 1 0 + length (left_from txid (i + 1) outputs)
+  count_here true e = let h = left_here length true e in omega (arith, h)
+  count_here false e = let h = left_here length false e in omega (arith, h)
+
+  pub among_here : (keys : List OutPoint) → is_spendable output ≡ true → Among keys (map (λ n. n.0) (left_from txid i outputs)) → Contains keys key × Among keys (map (λ n. n.0) (left_from txid (i + 1) outputs))
+  among_here keys e all =
+      let P : List OutPoint → Type 0 = λ outpoints. Among keys outpoints in
+      subst P (left_here (λ (left : List (OutPoint × TxOut)). map (λ n. n.0) left) true e) all
+
+  pub among_skipped : (keys : List OutPoint) → is_spendable output ≡ false → Among keys (map (λ n. n.0) (left_from txid i outputs)) → Among keys (map (λ n. n.0) (left_from txid (i + 1) outputs))
+  among_skipped keys e all =
+      let P : List OutPoint → Type 0 = λ outpoints. Among keys outpoints in
+      subst P (left_here (λ (left : List (OutPoint × TxOut)). map (λ n. n.0) left) false e) all
+
+  module _ (at : ℕ) (tx : Tx) (now : Option Coins) where
+    pub skipped : is_spendable output ≡ false → option_map (entered at tx (left_from txid (i + 1) outputs)) now ≡ option_map (entered at tx (left_from txid i outputs)) now
+    skipped e = sym (left_here (λ (left : List (OutPoint × TxOut)). option_map (entered at tx left) now) false e)
+
+    pub made : (next : Option Coins) (coin : Coin) → is_spendable output ≡ true → coin ≡ coin_of at tx output → next ≡ option_map (λ coins. insert coins key coin) now
+        → option_map (entered at tx (left_from txid (i + 1) outputs)) next ≡ option_map (entered at tx (left_from txid i outputs)) now
+    made next coin e same put =
+        ap (option_map (entered at tx (left_from txid (i + 1) outputs))) put
+        ∙ ap (λ (c : Coin). option_map (entered at tx (left_from txid (i + 1) outputs)) (option_map (λ coins. insert coins key c) now)) same
+        ∙ go now
+        ∙ sym (left_here (λ (left : List (OutPoint × TxOut)). option_map (entered at tx left) now) true e)
+      where
+        go : (o : Option Coins) → option_map (entered at tx (left_from txid (i + 1) outputs)) (option_map (λ coins. insert coins key (coin_of at tx output)) o) ≡ option_map (entered at tx ((key, output) ∷ left_from txid (i + 1) outputs)) o
+        go None = refl
+        go (Some coins) = refl
+
+-- an output that is asked for, whether it can be spent or not
+pub asked_here : (txid : Hash32) (outputs : List TxOut) (i : ℕ) (key : OutPoint) → i < length outputs → key ≡ record { txid = txid; index = i } → (keys : List OutPoint) → Among keys (map (λ n. n.0) (numbered txid i (drop i outputs))) → Contains keys key × Among keys (map (λ n. n.0) (numbered txid (i + 1) (drop (i + 1) outputs)))
+asked_here txid outputs i key within named keys all =
+    let P : List OutPoint → Type 0 = λ outpoints. Among keys outpoints in
+    subst P (
+      at_drop_more (λ (rest : List TxOut). map (λ n. n.0) (numbered txid i rest)) outputs i (record { value = pos 0; script = [] }) within
+      ∙ ap (λ (n : ℕ). record { txid = txid; index = i } ∷ map (λ n. n.0) (numbered txid n (drop (i + 1) outputs))) (sym (add-one i))
+      ∙ ap (λ (k : OutPoint). k ∷ map (λ n. n.0) (numbered txid (i + 1) (drop (i + 1) outputs))) (sym named)) all
+
+-- the coins without these outputs
+abbrev pub left_without : List (OutPoint × TxOut) → Coins → Coins
+left_without outputs coins = fold (λ left named. remove left named.0) coins outputs
+
+module _ (txid : Hash32) (outputs : List TxOut) (i : ℕ) (output : TxOut) (within : i < length outputs) (is : output ≡ get_or outputs i output) (key : OutPoint) (named : key ≡ record { txid = txid; index = i }) (now : Option Coins) where
+  pub kept : is_spendable output ≡ false → option_map (left_without (left_from txid (i + 1) outputs)) now ≡ option_map (left_without (left_from txid i outputs)) now
+  kept e = sym (left_here txid outputs i output within is key named (λ (left : List (OutPoint × TxOut)). option_map (left_without left) now) false e)
+
+  pub taken : (next : Option Coins) → is_spendable output ≡ true → next ≡ option_map (λ coins. remove coins key) now
+      → option_map (left_without (left_from txid (i + 1) outputs)) next ≡ option_map (left_without (left_from txid i outputs)) now
+  taken next e gone =
+      ap (option_map (left_without (left_from txid (i + 1) outputs))) gone
+      ∙ go now
+      ∙ sym (left_here txid outputs i output within is key named (λ (left : List (OutPoint × TxOut)). option_map (left_without left) now) true e)
     where
-      rest : List (OutPoint × TxOut)
-      rest = filter (λ named. is_spendable named.1) (numbered txid (i + 1) (drop (i + 1) outputs))
+      go : (o : Option Coins) → option_map (left_without (left_from txid (i + 1) outputs)) (option_map (λ coins. remove coins key) o) ≡ option_map (left_without ((key, output) ∷ left_from txid (i + 1) outputs)) o
+      go None = refl
+      go (Some coins) = refl
 
-  pub output_made : (old new : Changes) (coins : Coins) → is_spendable output ≡ true → new ≡ insert old (record { txid = txid; index = i }) (Some (coin_of at tx output)) → from at tx txid outputs (i + 1) (with_changes new coins) ≡ from at tx txid outputs i (with_changes old coins)
-  output_made old new coins spendable next =
-      ap (λ (changes : Changes). from at tx txid outputs (i + 1) (with_changes changes coins)) next
-      ∙ ap (λ (all : Coins). from at tx txid outputs (i + 1) all) (with_one_more old coins (record { txid = txid; index = i }) (Some (coin_of at tx output)))
-      ∙ sym (step (with_changes old coins) ∙ ap (λ (b : Bool). fold (λ all named. insert all named.0 (coin_of at tx named.1)) (with_changes old coins) (cond b ((record { txid = txid; index = i }, output) ∷ filter (λ named. is_spendable named.1) (numbered txid (i + 1) (drop (i + 1) outputs))) (filter (λ named. is_spendable named.1) (numbered txid (i + 1) (drop (i + 1) outputs))))) spendable)
+pub all_made : (at : ℕ) (tx : Tx) (txid : Hash32) (outputs : List TxOut) (i : ℕ) (now : Option Coins) → length outputs ≤ i → option_map (entered at tx (left_from txid i outputs)) now ≡ now
+all_made at tx txid outputs i now done =
+    at_drop_all (λ (rest : List TxOut). option_map (entered at tx (filter (λ n. is_spendable n.1) (numbered txid i rest))) now) outputs i done ∙ go now
+  where
+    go : (o : Option Coins) → option_map (entered at tx []) o ≡ o
+    go None = refl
+    go (Some coins) = refl
+
+pub none_left : (txid : Hash32) (outputs : List TxOut) (i : ℕ) → length outputs ≤ i → length (left_from txid i outputs) ≡ 0
+none_left txid outputs i done = at_drop_all (λ (rest : List TxOut). length (filter (λ n. is_spendable n.1) (numbered txid i rest))) outputs i done
+
+-- an output that can be spent is a coin that fits
+pub output_fits : (at : ℕ) (tx : Tx) (outputs : List TxOut) (i : ℕ) (output : TxOut) → i < length outputs → output ≡ get_or outputs i output → All (λ o. output_value o ≤ max_money) outputs → at < 2 ^ 31 → is_spendable output ≡ true → CoinFits (coin_of at tx output)
+output_fits at tx outputs i output within is values low e = record {
+  value = let P : TxOut → Type 0 = λ o. output_value o ≤ max_money in subst P (sym is) (values i output within);
+  script = ltb-false max_script_size (length output.script) (short (starts_with nat_eq output.script (0x6a ∷ [])) (nat_lt max_script_size (length output.script)) e);
+  height = low;
+}
+  where
+    short : (a b : Bool) → not (a || b) ≡ true → b ≡ false
+    short true b e = absurd cc
+    short false true e = absurd cc
+    short false false e = refl

@@ -18,25 +18,25 @@ use Rattle.chain_model.proofs.Worth.{worth_spent, worth_made}
 
 -- ---- rules that aren't broken
 
-first_fine : {R : Type 0} (o : Option R) (others : List (Option R)) → first_some (o ∷ others) ≡ None → (o ≡ None) × (first_some others ≡ None)
+pub first_fine : {R : Type 0} (o : Option R) (others : List (Option R)) → first_some (o ∷ others) ≡ None → (o ≡ None) × (first_some others ≡ None)
 unfolding first_some
 first_fine None others e = (refl, e)
 first_fine (Some rule) others e = absurd cc
 
-unbroken : {R : Type 0} (b : Bool) (rule : R) (rules : List (Bool × R)) → first_broken ((b, rule) ∷ rules) ≡ None → (b ≡ false) × (first_broken rules ≡ None)
+pub unbroken : {R : Type 0} (b : Bool) (rule : R) (rules : List (Bool × R)) → first_broken ((b, rule) ∷ rules) ≡ None → (b ≡ false) × (first_broken rules ≡ None)
 unfolding first_broken
 unbroken true rule rules e = absurd cc
 unbroken false rule rules e = (refl, e)
 
 -- no two inputs of a sound transaction name one outpoint
-single_inputs : (tx : Tx) → tx_broken tx ≡ None → has_twin_inputs tx.inputs ≡ false
+pub single_inputs : (tx : Tx) → tx_broken tx ≡ None → has_twin_inputs tx.inputs ≡ false
 single_inputs tx e =
     let inputs = unbroken _ _ _ e in
     let outputs = unbroken _ _ _ inputs.1 in
     let values = unbroken _ _ _ outputs.1 in
     (unbroken _ _ _ values.1).0
 
-sound_txs : (place : Place) (block : Block) → body_broken place block ≡ None → first_some (map tx_broken block.txs) ≡ None
+pub sound_txs : (place : Place) (block : Block) → body_broken place block ≡ None → first_some (map tx_broken block.txs) ≡ None
 unfolding body_broken
 sound_txs place block e = (first_fine _ _ (first_fine _ _ e).1).0
 

@@ -1,56 +1,18 @@
 -- The coins that a transaction spends, and the rules on them in their order.
-use Rattle.std.proofs.Common.{◌≡◌, ◌<◌, ◌≤◌, ◌+◌, ◌-◌, ◌^◌, ℕ, List, [], ◌∷◌, ◌++◌, length, drop, get_or, Bool, true, false, nat_lt, Option, Some, None, Result, Ok, Err, Bor, refl, sym, ap, ◌∙◌, arith}
-use Rattle.std.specs.Prelude.{min, option_map}
-use Rattle.std.proofs.lemmas.List.{at_drop_more, at_drop_all, append_assoc, append-nil, map-append}
+use Rattle.std.proofs.Common.{◌≡◌, ◌<◌, ◌≤◌, ◌+◌, ◌-◌, ◌^◌, ℕ, List, [], ◌∷◌, ◌++◌, length, drop, get_or, Bool, true, false, nat_lt, Option, Some, None, Result, Ok, Err, refl, sym, ap, ◌∙◌, arith}
+use Rattle.std.specs.Prelude.{min}
+use Rattle.std.proofs.lemmas.List.{at_drop_more, at_drop_all}
 use Rattle.std.proofs.lemmas.List.Sums.{sum_by-cons}
 use Rattle.std.proofs.lemmas.Bool.Decides.{nat_tests}
-use Rattle.std.specs.FinMap.{get}
-use Rattle.base_types.specs.Coins.{Coins}
 use Rattle.base_types.specs.declared.coin.Coin.{Coin}
 use Rattle.base_types.specs.declared.refused.CoinRefused.{CoinRefused}
 use Rattle.base_types.specs.declared.refused.CoinRefused.TheVariants.{Immature, ValueRange, InBelowOut, SequenceLock}
-use Rattle.block_codec.specs.declared.block.TxIn.{TxIn}
 use Rattle.block_codec.specs.declared.block.Tx.{Tx}
 use Rattle.chain_model.specs.Rules.{first_broken, first_some}
 use Rattle.base_types.specs.Parameters.{max_money}
-use Rattle.chain_model.specs.Coins.{and_coins, spent_by, value_of_coins, value_of_outputs}
+use Rattle.chain_model.specs.Coins.{value_of_coins, value_of_outputs}
 use Rattle.chain_model.specs.Apply.{Position, unless, is_immature, coins_broken, fee, is_locked, spending_broken}
 use Rattle.chain_model.specs.Fees.{fees_by}
-use Rattle.chain_model.specs.Seen.{seen}
-
--- ---- which coins
-
--- coins before others, if all are there
-abbrev pub behind : List Coin → Option (List Coin) → Option (List Coin)
-behind before others = option_map (λ rest. before ++ rest) others
-
-one_behind : (before : List Coin) (coin : Coin) (others : Option (List Coin)) → behind before (and_coins (Some coin) others) ≡ behind (before ++ coin ∷ []) others
-one_behind before coin None = refl
-one_behind before coin (Some rest) = ap (λ (all : List Coin). Some all) (sym (append_assoc before (coin ∷ []) rest))
-
-module _ (coins : Coins) (inputs : List TxIn) (i : ℕ) (input : TxIn) (within : i < length inputs) (is : input ≡ get_or inputs i input) where
-  at_input : (before : List Coin) → behind before (spent_by coins (drop i inputs)) ≡ behind before (and_coins (get coins input.prev) (spent_by coins (drop (i + 1) inputs)))
-  at_input before =
-      at_drop_more (λ (rest : List TxIn). behind before (spent_by coins rest)) inputs i input within
-      ∙ ap (λ (n : TxIn). behind before (and_coins (get coins n.prev) (spent_by coins (drop (i + 1) inputs)))) (sym is)
-
-  pub input_spent : (before now : List (Bor Coin)) (coin : Bor Coin) → now ≡ before ++ coin ∷ [] → get coins input.prev ≡ Some coin.now → behind (seen now) (spent_by coins (drop (i + 1) inputs)) ≡ behind (seen before) (spent_by coins (drop i inputs))
-  input_spent before now coin next found =
-      ap (λ (cs : List (Bor Coin)). behind (seen cs) (spent_by coins (drop (i + 1) inputs))) next
-      ∙ ap (λ (cs : List Coin). behind cs (spent_by coins (drop (i + 1) inputs))) (map-append (λ (c : Bor Coin). c.now) before (coin ∷ []))
-      ∙ sym (one_behind (seen before) coin.now (spent_by coins (drop (i + 1) inputs)))
-      ∙ ap (λ (o : Option Coin). behind (seen before) (and_coins o (spent_by coins (drop (i + 1) inputs)))) (sym found)
-      ∙ sym (at_input (seen before))
-
-  pub input_missing : (before : List (Bor Coin)) → get coins input.prev ≡ None → behind (seen before) (spent_by coins (drop i inputs)) ≡ None
-  input_missing before missing =
-      at_input (seen before)
-      ∙ ap (λ (o : Option Coin). behind (seen before) (and_coins o (spent_by coins (drop (i + 1) inputs)))) missing
-
-pub all_spent : (coins : Coins) (inputs : List TxIn) (i : ℕ) (before : List (Bor Coin)) → length inputs ≤ i → behind (seen before) (spent_by coins (drop i inputs)) ≡ Some (seen before)
-all_spent coins inputs i before h =
-    at_drop_all (λ (rest : List TxIn). behind (seen before) (spent_by coins rest)) inputs i h
-    ∙ ap (λ (all : List Coin). Some all) (append-nil (seen before))
 
 -- ---- coin by coin
 
@@ -72,30 +34,30 @@ module _ (at before : ℕ) (coin : Coin) (coins : List Coin) where
   unfolding coins_broken first_some first_broken
   fine_first e f = rw (e, f) (only (coins_broken at (before + coin.value) coins))
 
-module _ (at before : ℕ) (coins : List (Bor Coin)) (i : ℕ) (coin : Bor Coin) (within : i < length coins) (is : coin ≡ get_or coins i coin) where
-  at_coin : {A : Type 0} (f : List Coin → A) → f (seen (drop i coins)) ≡ f (coin.now ∷ seen (drop (i + 1) coins))
+module _ (at before : ℕ) (coins : List Coin) (i : ℕ) (coin : Coin) (within : i < length coins) (is : coin ≡ get_or coins i coin) where
+  at_coin : {A : Type 0} (f : List Coin → A) → f (drop i coins) ≡ f (coin ∷ drop (i + 1) coins)
   at_coin f =
-      at_drop_more (λ (rest : List (Bor Coin)). f (seen rest)) coins i coin within
-      ∙ ap (λ (c : Bor Coin). f (c.now ∷ seen (drop (i + 1) coins))) (sym is)
+      at_drop_more (λ (rest : List Coin). f rest) coins i coin within
+      ∙ ap (λ (c : Coin). f (c ∷ drop (i + 1) coins)) (sym is)
 
-  pub immature_at : is_immature at coin.now ≡ true → coins_broken at before (seen (drop i coins)) ≡ Some Immature
-  immature_at e = at_coin (coins_broken at before) ∙ immature_first at before coin.now (seen (drop (i + 1) coins)) e
+  pub immature_at : is_immature at coin ≡ true → coins_broken at before (drop i coins) ≡ Some Immature
+  immature_at e = at_coin (coins_broken at before) ∙ immature_first at before coin (drop (i + 1) coins) e
 
-  pub range_at : is_immature at coin.now ≡ false → max_money < before + coin.now.value → coins_broken at before (seen (drop i coins)) ≡ Some ValueRange
-  range_at e h = at_coin (coins_broken at before) ∙ range_first at before coin.now (seen (drop (i + 1) coins)) e (grind (arith, nat_tests))
+  pub range_at : is_immature at coin ≡ false → max_money < before + coin.value → coins_broken at before (drop i coins) ≡ Some ValueRange
+  range_at e h = at_coin (coins_broken at before) ∙ range_first at before coin (drop (i + 1) coins) e (grind (arith, nat_tests))
 
-  pub fine_at : is_immature at coin.now ≡ false → before + coin.now.value ≤ max_money → coins_broken at (before + coin.now.value) (seen (drop (i + 1) coins)) ≡ coins_broken at before (seen (drop i coins))
-  fine_at e h = sym (at_coin (coins_broken at before) ∙ fine_first at before coin.now (seen (drop (i + 1) coins)) e (grind (arith, nat_tests)))
+  pub fine_at : is_immature at coin ≡ false → before + coin.value ≤ max_money → coins_broken at (before + coin.value) (drop (i + 1) coins) ≡ coins_broken at before (drop i coins)
+  fine_at e h = sym (at_coin (coins_broken at before) ∙ fine_first at before coin (drop (i + 1) coins) e (grind (arith, nat_tests)))
 
-  pub value_at : value_of_coins (seen (drop i coins)) ≡ coin.now.value + value_of_coins (seen (drop (i + 1) coins))
-  value_at = at_coin value_of_coins ∙ sum_by-cons (λ (c : Coin). c.value) coin.now (seen (drop (i + 1) coins))
+  pub value_at : value_of_coins (drop i coins) ≡ coin.value + value_of_coins (drop (i + 1) coins)
+  value_at = at_coin value_of_coins ∙ sum_by-cons (λ (c : Coin). c.value) coin (drop (i + 1) coins)
 
-pub coins_fine : (at before : ℕ) (coins : List (Bor Coin)) (i : ℕ) → length coins ≤ i → coins_broken at before (seen (drop i coins)) ≡ None
+pub coins_fine : (at before : ℕ) (coins : List Coin) (i : ℕ) → length coins ≤ i → coins_broken at before (drop i coins) ≡ None
 unfolding coins_broken
-coins_fine at before coins i h = at_drop_all (λ (rest : List (Bor Coin)). coins_broken at before (seen rest)) coins i h
+coins_fine at before coins i h = at_drop_all (λ (rest : List Coin). coins_broken at before rest) coins i h
 
-pub no_value_left : (coins : List (Bor Coin)) (i : ℕ) → length coins ≤ i → value_of_coins (seen (drop i coins)) ≡ 0
-no_value_left coins i h = at_drop_all (λ (rest : List (Bor Coin)). value_of_coins (seen rest)) coins i h
+pub no_value_left : (coins : List Coin) (i : ℕ) → length coins ≤ i → value_of_coins (drop i coins) ≡ 0
+no_value_left coins i h = at_drop_all (λ (rest : List Coin). value_of_coins rest) coins i h
 
 -- ---- the rules on a transaction
 

@@ -68,7 +68,7 @@ worth_insert coins key coin =
     ∙ ap (λ (o : Option Coin). value_of_coins (values_of (insert_entry outpoint_cmp (entries coins) key coin)) + worth o) (get-entries coins key ∙ find_lookup outpoint_cmp key (entries coins))
     ∙ sum_by-insert_entry (λ (c : Coin). c.value) outpoint_cmp_total (entries coins) key coin (rising (entries coins) (entries_sorted coins))
 
-same_key : (key : OutPoint) → eq_by_cmp outpoint_cmp key key ≡ true
+pub same_key : (key : OutPoint) → eq_by_cmp outpoint_cmp key key ≡ true
 same_key key = (eq_by_cmp_equiv outpoint_cmp_total).refl key
 
 nothing_taken : (coins : Coins) (key : OutPoint) → get coins key ≡ None → remove coins key ≡ coins
@@ -103,7 +103,7 @@ neither true b e = absurd cc
 neither false b e = (refl, e)
 
 -- coins that other inputs spend stay when one is spent
-still_there : (coins : Coins) (key : OutPoint) (inputs : List TxIn) → list_any (λ other. same_outpoint key other.prev) inputs ≡ false → spent_by (remove coins key) inputs ≡ spent_by coins inputs
+pub still_there : (coins : Coins) (key : OutPoint) (inputs : List TxIn) → list_any (λ other. same_outpoint key other.prev) inputs ≡ false → spent_by (remove coins key) inputs ≡ spent_by coins inputs
 still_there coins key [] e = refl
 still_there coins key (input ∷ inputs) e =
     let p = neither (same_outpoint key input.prev) (list_any (λ other. same_outpoint key other.prev) inputs) e in

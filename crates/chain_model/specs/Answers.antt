@@ -10,6 +10,8 @@ use Rattle.block_codec.specs.declared.block.Tx.{Tx}
 use Rattle.chain_model.specs.Apply.{Position, overwrites, after_all}
 use Rattle.chain_model.specs.declared.fault.ApplyFault.{ApplyFault}
 use Rattle.chain_model.specs.declared.fault.ApplyFault.TheVariants.{NoMemory, Refused}
+use Rattle.chain_model.specs.declared.fault.ConnectFault.{ConnectFault}
+use Rattle.chain_model.specs.declared.fault.ConnectFault.TheVariants.{Refused as BreaksRule, Store}
 use Rattle.chain_model.specs.declared.fault.ReplayFault.{ReplayFault}
 use Rattle.chain_model.specs.declared.fault.ReplayFault.TheVariants.{NoMemory as OutOfMemory, Refused as RefusedBlock}
 
@@ -18,10 +20,10 @@ abbrev pub Refuses : {A : Type 0} → Result A CoinRefused → ApplyFault → Ty
 Refuses meant NoMemory = ⊤
 Refuses meant (Refused rule) = meant ≡ Err rule
 
--- the value where no rule is broken, and else the rule
-abbrev pub Answers : {A : Type 0} → Result A CoinRefused → Result A ApplyFault → Type 0
-Answers meant (Ok a) = meant ≡ Ok a
-Answers meant (Err fault) = Refuses meant fault
+-- coins in memory have no fault of a store but that no memory is left
+abbrev pub applied_fault : ConnectFault → ApplyFault
+applied_fault (BreaksRule rule) = Refused rule
+applied_fault (Store fault) = NoMemory
 
 -- the coins after the transactions of a block at a position, or the first rule that they break
 abbrev pub outcome_of : Position → Coins → List Tx → Result Coins CoinRefused

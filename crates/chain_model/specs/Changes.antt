@@ -1,12 +1,12 @@
 -- Changes to coins that are kept beside them.
-use Rattle.std.specs.Prelude.{List, fold}
+use Rattle.std.specs.Prelude.{List, IfSome, fold}
 use Rattle.std.specs.declared.option.Option.{Option}
 use Rattle.std.specs.declared.option.Option.TheVariants.{Some, None}
 use Rattle.std.specs.Coded.{Coded, coded_option}
 use Rattle.std.specs.FinMap as finite
-use Rattle.std.specs.FinMap.{FinMap, insert, remove, entries}
+use Rattle.std.specs.FinMap.{FinMap, get, insert, remove, entries}
 use Rattle.base_types.specs.Keys.{outpoint_cmp}
-use Rattle.base_types.specs.Coins.{Coins}
+use Rattle.base_types.specs.Coins.{Coins, CoinFits}
 use Rattle.base_types.specs.declared.hash.OutPoint.{OutPoint}
 use Rattle.base_types.specs.declared.coin.Coin.{Coin}
 use Rattle.base_types.specs.Codes.{outpoint_code, coin_code}
@@ -29,3 +29,11 @@ changed_by coins changes = fold (λ all change. changed all change.0 change.1) c
 
 abbrev pub with_changes : Changes → Coins → Coins
 with_changes changes coins = changed_by coins (entries changes)
+
+-- the coins that are to be there fit their ranges
+abbrev pub ChangesFit : Changes → Type 0
+ChangesFit changes = (key : OutPoint) → IfSome (get changes key) (λ change. IfSome change CoinFits)
+
+-- all coins do
+abbrev pub CoinsFit : Coins → Type 0
+CoinsFit coins = (key : OutPoint) → IfSome (get coins key) CoinFits

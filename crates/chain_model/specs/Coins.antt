@@ -50,6 +50,10 @@ without inputs coins = fold (λ left input. remove left input.prev) coins inputs
 abbrev pub with_outputs : ℕ → Tx → Coins → Coins
 with_outputs at tx coins = fold (λ all named. insert all named.0 (coin_of at tx named.1)) coins (spendable_of tx)
 
+-- the coins without those at the outpoints of a transaction's spendable outputs
+abbrev pub without_outputs : Tx → Coins → Coins
+without_outputs tx coins = fold (λ left named. remove left named.0) coins (spendable_of tx)
+
 -- a coin and others, if all are there
 abbrev pub and_coins : Option Coin → Option (List Coin) → Option (List Coin)
 and_coins None coins = None

@@ -5,6 +5,8 @@ pub mod BodyRules
 pub mod Changes
 pub mod Choice
 pub mod Coins
+pub mod Connecting
+pub mod Editing
 pub mod Fees
 pub mod Folding
 pub mod Generated
@@ -12,7 +14,6 @@ pub mod Growth
 pub mod HeaderRules
 pub mod Laws
 pub mod Rules
-pub mod Seen
 pub mod SmallChoices
 pub mod SmallTrees
 pub mod Standing

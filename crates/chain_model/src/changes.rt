@@ -1,17 +1,13 @@
 //! What one block does to coins, kept beside them until it is known that the block may do it.
 
-ghost use Rattle.std.specs.Prelude.{◌≡◌, Some, None, OnOk};
+ghost use Rattle.std.specs.Prelude.{◌≡◌, Some, None, IfSome, OnOk, OnErr};
 ghost use Rattle.std.specs.Option.{option_copied};
 ghost use Rattle.std.specs.FinMap as finite;
-ghost use Rattle.base_types.specs.Coins.{Coins};
-ghost use Rattle.block_codec.specs.Text.{txid_of};
-ghost use Rattle.chain_model.specs.Coins.{without, with_outputs};
+ghost use Rattle.base_types.specs.Coins.{CoinFits};
 ghost use Rattle.chain_model.specs.Changes.{with_changes};
 
-use crate::outputs::{coin_of, is_spendable, number_of};
 use crate::plain::Plain;
-use base_types::{Coin, Hash32, OutPoint};
-use block_codec::{Tx, TxIn, is_coinbase};
+use base_types::{Coin, OutPoint};
 use std::alloc::{AllocError, Global};
 use std::collections::BTreeMap;
 use std::marker::Model;
@@ -31,6 +27,10 @@ impl Model for Changes {
     ghost coded = { changes_code };
 
     ghost view = { λ changes. finite.from_entries changes.changed.entries };
+
+    ghost use Rattle.chain_model.specs.Changes.{ChangesFit};
+
+    ghost invariant = { λ changes. ChangesFit (finite.from_entries changes.changed.entries) };
 }
 
 impl Changes {
@@ -45,7 +45,8 @@ impl Changes {
 
     /// The coin of an outpoint after these changes to coins.
     pub(crate) fn coin<'a>(&'a self, coins: &'a Plain, key: &OutPoint) -> Option<&'a Coin>
-        ensures { option_copied result ≡ finite.get (with_changes self.now coins.now) key.now }
+        ensures coin { option_copied result ≡ finite.get (with_changes self.now coins.now) key.now }
+        ensures fits { IfSome result (λ coin. CoinFits coin.now) }
     {
         match self.changed.get(key) {
             Some(change) => change.as_ref(),
@@ -53,52 +54,22 @@ impl Changes {
         }
     }
 
-    /// Puts a coin at an outpoint.
+    /// Puts a coin at an outpoint. Where memory runs out the changes stay as they were.
     pub(crate) fn make(&mut self, key: OutPoint, coin: Coin) -> Result<(), AllocError>
-        ensures { OnOk result (self.new ≡ finite.insert self.old key (Some coin)) }
+        requires { CoinFits coin }
+        ensures ok { OnOk result (self.new ≡ finite.insert self.old key (Some coin)) }
+        ensures err { OnErr result (self.new ≡ self.old) }
     {
         self.changed.insert(key, Some(coin))?;
         Ok(())
     }
 
-    /// Takes the coin of an outpoint away.
+    /// Takes the coin of an outpoint away. Where memory runs out the changes stay as they were.
     pub(crate) fn spend(&mut self, key: OutPoint) -> Result<(), AllocError>
-        ensures { OnOk result (self.new ≡ finite.insert self.old key None) }
+        ensures ok { OnOk result (self.new ≡ finite.insert self.old key None) }
+        ensures err { OnErr result (self.new ≡ self.old) }
     {
         self.changed.insert(key, None)?;
-        Ok(())
-    }
-
-    /// Takes away the coins that inputs spend.
-    pub(crate) fn spend_inputs(&mut self, inputs: &[TxIn]) -> Result<(), AllocError>
-        ensures { OnOk result ((coins : Coins) → with_changes self.new coins ≡ without inputs.now (with_changes self.old coins)) }
-    {
-        for input in inputs {
-            self.spend(input.prev)?;
-        }
-        Ok(())
-    }
-
-    /// Puts the outputs of a transaction that can be spent, in a block at a height.
-    pub(crate) fn make_outputs(
-        &mut self,
-        tx: &Tx,
-        txid: &Hash32,
-        height: u32,
-    ) -> Result<(), AllocError>
-        requires { txid.now ≡ txid_of tx.now }
-        ensures { OnOk result ((coins : Coins) → with_changes self.new coins ≡ with_outputs height tx.now (with_changes self.old coins)) }
-    {
-        let coinbase = is_coinbase(tx);
-        for (index, output) in tx.outputs.as_slice().iter().enumerate() {
-            if is_spendable(output) {
-                let key = OutPoint {
-                    txid: *txid,
-                    index: number_of(index)?,
-                };
-                self.make(key, coin_of(output, height, coinbase)?)?;
-            }
-        }
         Ok(())
     }
 

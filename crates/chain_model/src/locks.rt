@@ -1,8 +1,7 @@
 //! Relative lock times (BIP 68; `CalculateSequenceLocks` in Bitcoin Core's `consensus/tx_verify.cpp`).
 
-ghost use Rattle.std.specs.Prelude.{◌≡◌, ◌+◌, ◌*◌, ◌%◌, ◌-◌, ◌&&◌, nat_le, map};
+ghost use Rattle.std.specs.Prelude.{◌≡◌, ◌+◌, ◌*◌, ◌%◌, ◌-◌, ◌&&◌, nat_le};
 ghost use Rattle.chain_model.specs.Apply.{is_locked as locked, has_lock as some_lock, lock_passed, is_free as free, counts_time as in_time};
-ghost use Rattle.chain_model.specs.Seen.{seen};
 
 use crate::context::Context;
 use crate::tree_view::TreeView;
@@ -20,16 +19,16 @@ const GRANULARITY: u64 = 512;
 
 /// Whether the lock of some input hasn't passed yet in a block that stands here. The coins that the inputs spend come in
 /// the inputs' order.
-pub(crate) fn is_locked<T: TreeView>(context: &Context<T>, tx: &Tx, spent: &[&Coin]) -> bool
-    ensures { result ≡ locked (record { tree = T.tree context.now.tree.now; parent = context.now.parent.now; at = context.now.height }) tx.now (seen spent.now) }
+pub(crate) fn is_locked<T: TreeView>(context: &Context<T>, tx: &Tx, spent: &[Coin]) -> bool
+    ensures { result ≡ locked (record { tree = T.tree context.now.tree.now; parent = context.now.parent.now; at = context.now.height }) tx.now spent.now }
 {
     context.tree.rules().csv <= context.height
         && tx.version >= 2
         && has_lock(context, tx.inputs.as_slice(), spent)
 }
 
-fn has_lock<T: TreeView>(context: &Context<T>, inputs: &[TxIn], spent: &[&Coin]) -> bool
-    ensures { result ≡ some_lock (record { tree = T.tree context.now.tree.now; parent = context.now.parent.now; at = context.now.height }) inputs.now (seen spent.now) }
+fn has_lock<T: TreeView>(context: &Context<T>, inputs: &[TxIn], spent: &[Coin]) -> bool
+    ensures { result ≡ some_lock (record { tree = T.tree context.now.tree.now; parent = context.now.parent.now; at = context.now.height }) inputs.now spent.now }
 {
     for (input, coin) in inputs.iter().zip(spent) {
         if !is_free(input.sequence) && !has_passed(context, input.sequence, coin) {

@@ -1,9 +1,10 @@
 //! Coins in memory.
 
-ghost use Rattle.std.specs.Prelude.{◌≡◌, IfOk, OnOk, OnErr};
+ghost use Rattle.std.specs.Prelude.{◌≡◌, IfOk, IfSome, OnOk, OnErr};
 ghost use Rattle.std.specs.Option.{option_copied};
 ghost use Rattle.std.specs.BTreeMap as tree;
 ghost use Rattle.std.specs.FinMap as finite;
+ghost use Rattle.base_types.specs.Coins.{CoinFits};
 ghost use Rattle.base_types.specs.Keys.{outpoint_cmp};
 
 use base_types::{Coin, Keys, OutPoint};
@@ -11,7 +12,7 @@ use std::alloc::{AllocError, Global};
 use std::collections::BTreeMap;
 use std::marker::Model;
 
-/// Coins by their outpoints, in memory alone.
+/// Coins by their outpoints, in memory alone. Each fits its ranges.
 #[derive(Debug, Drop)]
 pub struct Plain {
     coins: BTreeMap<OutPoint, Coin>,
@@ -28,6 +29,10 @@ impl Model for Plain {
     ghost coded = { coins_code };
 
     ghost view = { λ plain. finite.from_entries plain.coins.entries };
+
+    ghost use Rattle.chain_model.specs.Changes.{CoinsFit};
+
+    ghost invariant = { λ plain. CoinsFit (finite.from_entries plain.coins.entries) };
 }
 
 impl Plain {
@@ -43,13 +48,15 @@ impl Plain {
 
     /// The coin of an outpoint, if there is one.
     pub fn get(&self, key: &OutPoint) -> Option<&Coin>
-        ensures { option_copied result ≡ finite.get self.now key.now }
+        ensures coin { option_copied result ≡ finite.get self.now key.now }
+        ensures fits { IfSome result (λ coin. CoinFits coin.now) }
     {
         self.coins.get(key)
     }
 
     /// Puts a coin at an outpoint, in place of one that was there. Where memory runs out the coins stay as they were.
     pub fn put(&mut self, key: OutPoint, coin: Coin) -> Result<(), AllocError>
+        requires { CoinFits coin }
         ensures ok { OnOk result (self.new ≡ finite.insert self.old key coin) }
         ensures err { OnErr result (self.new ≡ self.old) }
     {

@@ -1,57 +1,31 @@
 //! The checks of one transaction on the coins that it spends (`CheckTxInputs` in Bitcoin Core's
 //! `consensus/tx_verify.cpp`).
 
-ghost use Rattle.std.specs.Prelude.{◌≡◌, ◌≤◌, ◌+◌, ◌-◌, [], ◌∷◌, nat_lt, Some, None, IfOk, IfErr, option_map};
+ghost use Rattle.std.specs.Prelude.{◌≡◌, ◌≤◌, ◌+◌, ◌-◌, [], ◌∷◌, nat_lt, Some, None, IfOk, IfErr};
 ghost use Rattle.base_types.specs.declared.refused.CoinRefused.TheVariants.{InBelowOut, ValueRange};
 ghost use Rattle.chain_model.specs.Apply.{is_immature as immature, coins_broken, unless};
 ghost use Rattle.chain_model.specs.Rules.{first_broken};
 ghost use Rattle.base_types.specs.Parameters.{max_money};
-ghost use Rattle.chain_model.specs.Coins.{spent_by, value_of_coins, value_of_outputs};
-ghost use Rattle.chain_model.specs.Changes.{with_changes};
-ghost use Rattle.chain_model.specs.Answers.{Answers};
-ghost use Rattle.chain_model.specs.Fees.{fees_by, fees_with};
-ghost use Rattle.chain_model.specs.Seen.{seen};
+ghost use Rattle.chain_model.specs.Coins.{value_of_coins, value_of_outputs};
+ghost use Rattle.chain_model.specs.Fees.{fees_by};
 
-use crate::changes::Changes;
 use crate::context::Context;
-use crate::fault::ApplyFault;
 use crate::locks::is_locked;
 use crate::outputs::value_of;
-use crate::plain::Plain;
 use crate::tree_view::TreeView;
 use base_types::{COINBASE_MATURITY, Coin, CoinRefused, MAX_MONEY};
-use block_codec::{Tx, TxIn};
-use std::alloc::{AllocError, Global};
+use block_codec::Tx;
 
-/// The fees so far with those of a transaction that isn't a coinbase, or the first rule that it breaks on coins and changes
-/// to them.
+/// The fees so far with those of a transaction that isn't a coinbase, or the first rule that it breaks, by the coins that
+/// its inputs spend.
 pub(crate) fn fees_after<T: TreeView>(
-    alloc: Global,
-    context: &Context<T>,
-    coins: &Plain,
-    changes: &Changes,
-    fees: u64,
-    tx: &Tx,
-) -> Result<u64, ApplyFault>
-    requires { fees ≤ max_money }
-    ensures answers { Answers (fees_with (record { tree = T.tree context.now.tree.now; parent = context.now.parent.now; at = context.now.height }) fees tx.now (spent_by (with_changes changes.now coins.now) tx.now.inputs)) result }
-    ensures in_range { IfOk result (λ after. after ≤ max_money) }
-{
-    let Some(spent) = spent_coins(alloc, coins, changes, tx.inputs.as_slice())? else {
-        return Err(ApplyFault::Refused(CoinRefused::MissingInput));
-    };
-    Ok(fees_after_spending(context, fees, tx, &spent)?)
-}
-
-// The same by the coins that its inputs spend.
-fn fees_after_spending<T: TreeView>(
     context: &Context<T>,
     fees: u64,
     tx: &Tx,
-    spent: &[&Coin],
+    spent: &[Coin],
 ) -> Result<u64, CoinRefused>
     requires { fees ≤ max_money }
-    ensures result { result ≡ fees_by (record { tree = T.tree context.now.tree.now; parent = context.now.parent.now; at = context.now.height }) fees tx.now (seen spent.now) }
+    ensures result { result ≡ fees_by (record { tree = T.tree context.now.tree.now; parent = context.now.parent.now; at = context.now.height }) fees tx.now spent.now }
     ensures in_range { IfOk result (λ after. after ≤ max_money) }
 {
     let paid_in = value_of_spent(context.height, spent)?;
@@ -62,31 +36,12 @@ fn fees_after_spending<T: TreeView>(
     Ok(after)
 }
 
-// The coins that inputs spend, in the inputs' order; none where one isn't there.
-fn spent_coins<'a>(
-    alloc: Global,
-    coins: &'a Plain,
-    changes: &'a Changes,
-    inputs: &[TxIn],
-) -> Result<Option<Vec<&'a Coin>>, AllocError>
-    ensures { IfOk result (λ spent. option_map (λ v. seen v.items) spent ≡ spent_by (with_changes changes.now coins.now) inputs.now) }
-{
-    let mut spent = Vec::with_capacity(alloc, inputs.len())?;
-    for input in inputs {
-        let Some(coin) = changes.coin(coins, &input.prev) else {
-            return Ok(None);
-        };
-        spent.push(coin)?;
-    }
-    Ok(Some(spent))
-}
-
 // The sum of the values of coins that are spent at a height, or the first rule that one breaks, coin by coin.
-fn value_of_spent(height: u32, coins: &[&Coin]) -> Result<u64, CoinRefused>
-    ensures ok { IfOk result (λ total. coins_broken height 0 (seen coins.now) ≡ None) }
-    ensures total { IfOk result (λ total. total ≡ value_of_coins (seen coins.now)) }
+fn value_of_spent(height: u32, coins: &[Coin]) -> Result<u64, CoinRefused>
+    ensures ok { IfOk result (λ total. coins_broken height 0 coins.now ≡ None) }
+    ensures total { IfOk result (λ total. total ≡ value_of_coins coins.now) }
     ensures in_range { IfOk result (λ total. total ≤ max_money) }
-    ensures err { IfErr result (λ rule. coins_broken height 0 (seen coins.now) ≡ Some rule) }
+    ensures err { IfErr result (λ rule. coins_broken height 0 coins.now ≡ Some rule) }
 {
     let mut total = 0u64;
     for coin in coins {

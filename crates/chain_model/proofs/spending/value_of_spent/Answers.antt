@@ -15,7 +15,7 @@ returns-then-coin-total-clause-err c =
 
 pub loop-coin-preserved : goal.loop-coin-preserved
 loop-coin-preserved c =
-    let small : c.loop-coin.total + c.coin-item.result.now.value ≤ max_money = omega arith in
+    let small : c.loop-coin.total + c.coin-item.result.value ≤ max_money = omega arith in
     let value = value_at c.args.height c.loop-coin.total c.args.coins.now c.loop-coin.coin-index c.coin-item.result (omega arith) c.coin-item.is in
     record {
       so_far = fine_at c.args.height c.loop-coin.total c.args.coins.now c.loop-coin.coin-index c.coin-item.result (omega arith) c.coin-item.is (sym c.is_immature.ensures ∙ c.if-is_immature.false) small ∙ c.loop-coin.invariant.so_far;

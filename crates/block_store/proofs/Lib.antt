@@ -2,6 +2,7 @@ pub mod IndexLaws
 pub mod PayloadLaws
 pub mod StoreLaws
 mod Adding
+pub mod DamagedFiles
 mod Finding
 pub mod HashSteps
 mod HeaderSteps

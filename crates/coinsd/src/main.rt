@@ -2,6 +2,7 @@
 #![tactic(auto)]
 
 mod files;
+mod folder;
 mod streams;
 
 use coins_top::{Limits, Salt, Status, Words, run};

@@ -1,8 +1,12 @@
 //! The adapters over real files.
 
 use crate::files::SystemFiles;
+use crate::folder::SystemFolder;
 use crate::streams::{Reading, Writing};
+use disk_model::RawFiles;
+use file_disk::{FolderFiles, Operation};
 use io_traits::{Host, Sink, Source, UntoldHost, UntoldSink, UntoldSource};
+use std::fs;
 use std::fs::File;
 use std::test::Fail;
 
@@ -47,5 +51,38 @@ fn streams_read_and_write(rt: HostRuntime) -> Result<(), Fail> {
     let reader = File::open(&rt, ".").ok().ok_or("opened")?;
     let mut folder = UntoldSource::new(Reading { reader });
     assert!(rt; folder.read(&mut buf).is_err());
+    Ok(())
+}
+
+// A folder whose files are written and read by number, and that no second one can take.
+#[test]
+fn a_folder_keeps_numbered_files(rt: HostRuntime) -> Result<(), Fail> {
+    let alloc = rt.alloc();
+    let folder = SystemFolder::new(&rt, alloc, ".", "numbered");
+    let mut files = FolderFiles::open(alloc, folder).ok().ok_or("opened")?;
+    let mut buf = [9; 8];
+    assert_eq!(rt; files.len(1), Ok(0));
+    assert!(rt; files.write_at(1, 2, b"coins").is_ok());
+    assert!(rt; files.sync(1).is_ok());
+    assert_eq!(rt; files.read(1, 0, &mut buf), Ok(7));
+    assert_eq!(rt; buf, *b"\0\0coins\x09");
+    assert!(rt; files.cut(1, 4).is_ok());
+    assert!(rt; files.cut(1, 6).is_ok());
+    assert_eq!(rt; files.len(1), Ok(4));
+    assert!(rt; files.trouble().is_none());
+    let second = SystemFolder::new(&rt, alloc, ".", "numbered");
+    let refused = FolderFiles::open(alloc, second).err().ok_or("refused")?;
+    assert_eq!(rt; refused.operation, Operation::LockHeld);
+    Ok(())
+}
+
+// A file stands in the folder's place.
+#[test]
+fn a_file_is_no_folder(rt: HostRuntime) -> Result<(), Fail> {
+    let alloc = rt.alloc();
+    fs::write(&rt, "taken", "a file").ok().ok_or("written")?;
+    let folder = SystemFolder::new(&rt, alloc, ".", "taken");
+    let refused = FolderFiles::open(alloc, folder).err().ok_or("refused")?;
+    assert_eq!(rt; refused.operation, Operation::MakeFolder);
     Ok(())
 }

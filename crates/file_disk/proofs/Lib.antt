@@ -1,0 +1,4 @@
+pub mod Durable
+pub mod Moved
+pub mod Reached
+pub mod Unsynced

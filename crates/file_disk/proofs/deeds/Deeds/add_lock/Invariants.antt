@@ -1,0 +1,11 @@
+use Rattle.std.proofs.Common.{ℕ, zero, suc, Bool, Option, Some, None}
+use Rattle.file_disk.specs.Deeds.{locks}
+use Rattle.file_disk.proofs.deeds.Deeds.add_lock.Given as goal
+
+-- a count above 0 says that the call answered
+abbrev told : ℕ → Bool → Option Bool
+told zero done = None
+told (suc count) done = Some done
+
+abbrev pub ghost-add : goal.ghost-add
+ghost-add a = locks (told a._count a._done)

@@ -3,7 +3,6 @@ use Rattle.std.proofs.Common.{◌≡◌, ◌≤◌, ◌+◌, ℕ, Result, Ok, Er
 use Rattle.base_types.specs.Views.{ViewCounts, FindsFault}
 use Rattle.base_types.proofs.ViewCalls.{finds_then, finds_within, finds_passed, finds_answered}
 use Rattle.base_types.specs.declared.fault.StoreFault.{StoreFault}
-use Rattle.base_types.specs.declared.fault.StoreFault.TheVariants.{NoMemory}
 
 failed : {A F : Type 0} → F → Result A F
 failed fault = Err fault
@@ -27,12 +26,3 @@ module _ (T U V : Type 0) (a b n : ℕ) (old mid new : ViewCounts) (value : T) (
 -- more calls than these
 pub answered_within : (T V : Type 0) (a n : ℕ) (old new : ViewCounts) (value : T) (other : V) → a ≤ n → FindsFault a old new (Ok value) → FindsFault n old new (Ok other)
 answered_within T V a n old new value other few first = finds_answered n old new value other (finds_within a n old new (Ok value) few first)
-
-pub failed_within : (U V : Type 0) (a n : ℕ) (old new : ViewCounts) (fault : StoreFault) → a ≤ n → FindsFault {T = U} a old new (Err fault) → FindsFault {T = V} n old new (Err fault)
-failed_within U V a n old new fault few first = finds_passed U V n old new fault (finds_within a n old new (Err fault) few first)
-
--- calls that were answered, and then no memory
-pub no_memory_then : (T V : Type 0) (a n : ℕ) (old new : ViewCounts) (value : T) → a ≤ n → FindsFault a old new (Ok value) → FindsFault {T = V} n old new (Err NoMemory)
-no_memory_then T V a n old new value few first =
-    let all = finds_within a n old new (Ok value) few first in
-    record { entries = all.entries; cause = all.cause }

@@ -1,18 +1,15 @@
 -- Outputs that enter the coins one by one.
-use Rattle.std.proofs.Common.{◌≡◌, ◌<◌, ◌≤◌, ◌+◌, ◌*◌, ℕ, suc, List, [], ◌∷◌, length, drop, get_or, map, Bool, true, false, cond, Option, Some, None, refl, sym, ap, subst, ◌∙◌, ◌^◌, pos, add-one, arith}
-use Rattle.std.specs.Prelude.{◌||◌, Contains, All, fold, filter, not, nat_eq, nat_lt, option_map}
-use Rattle.std.proofs.lemmas.List.{at_drop_more, at_drop_all}
-use Rattle.std.proofs.lemmas.Bool.{ltb-false}
+use Rattle.std.proofs.Common.{◌≡◌, ◌<◌, ◌+◌, ℕ, List, [], ◌∷◌, length, drop, get_or, map, Bool, true, false, cond, Option, Some, None, refl, sym, ap, subst, ◌∙◌, pos, add-one, arith}
+use Rattle.std.specs.Prelude.{Contains, fold, filter, option_map}
+use Rattle.std.proofs.lemmas.List.{at_drop_more}
 use Rattle.std.specs.FinMap.{insert, remove}
-use Rattle.std.specs.List.{starts_with}
-use Rattle.base_types.specs.Coins.{Coins, CoinFits}
-use Rattle.base_types.specs.Parameters.{max_money, max_script_size}
+use Rattle.base_types.specs.Coins.{Coins}
 use Rattle.base_types.specs.declared.hash.Hash32.{Hash32}
 use Rattle.base_types.specs.declared.hash.OutPoint.{OutPoint}
 use Rattle.base_types.specs.declared.coin.Coin.{Coin}
 use Rattle.base_types.specs.declared.coin.TxOut.{TxOut}
 use Rattle.block_codec.specs.declared.block.Tx.{Tx}
-use Rattle.chain_model.specs.Coins.{is_spendable, output_value, numbered, coin_of, with_outputs}
+use Rattle.chain_model.specs.Coins.{is_spendable, numbered, coin_of}
 use Rattle.chain_model.specs.Editing.{Among}
 
 -- the outputs from one on that can be spent
@@ -71,9 +68,9 @@ pub asked_here : (txid : Hash32) (outputs : List TxOut) (i : ℕ) (key : OutPoin
 asked_here txid outputs i key within named keys all =
     let P : List OutPoint → Type 0 = λ outpoints. Among keys outpoints in
     subst P (
-      at_drop_more (λ (rest : List TxOut). map (λ n. n.0) (numbered txid i rest)) outputs i (record { value = pos 0; script = [] }) within
-      ∙ ap (λ (n : ℕ). record { txid = txid; index = i } ∷ map (λ n. n.0) (numbered txid n (drop (i + 1) outputs))) (sym (add-one i))
-      ∙ ap (λ (k : OutPoint). k ∷ map (λ n. n.0) (numbered txid (i + 1) (drop (i + 1) outputs))) (sym named)) all
+    at_drop_more (λ (rest : List TxOut). map (λ n. n.0) (numbered txid i rest)) outputs i (record { value = pos 0; script = [] }) within
+    ∙ ap (λ (n : ℕ). record { txid = txid; index = i } ∷ map (λ n. n.0) (numbered txid n (drop (i + 1) outputs))) (sym (add-one i))
+    ∙ ap (λ (k : OutPoint). k ∷ map (λ n. n.0) (numbered txid (i + 1) (drop (i + 1) outputs))) (sym named)) all
 
 -- the coins without these outputs
 abbrev pub left_without : List (OutPoint × TxOut) → Coins → Coins
@@ -93,27 +90,3 @@ module _ (txid : Hash32) (outputs : List TxOut) (i : ℕ) (output : TxOut) (with
       go : (o : Option Coins) → option_map (left_without (left_from txid (i + 1) outputs)) (option_map (λ coins. remove coins key) o) ≡ option_map (left_without ((key, output) ∷ left_from txid (i + 1) outputs)) o
       go None = refl
       go (Some coins) = refl
-
-pub all_made : (at : ℕ) (tx : Tx) (txid : Hash32) (outputs : List TxOut) (i : ℕ) (now : Option Coins) → length outputs ≤ i → option_map (entered at tx (left_from txid i outputs)) now ≡ now
-all_made at tx txid outputs i now done =
-    at_drop_all (λ (rest : List TxOut). option_map (entered at tx (filter (λ n. is_spendable n.1) (numbered txid i rest))) now) outputs i done ∙ go now
-  where
-    go : (o : Option Coins) → option_map (entered at tx []) o ≡ o
-    go None = refl
-    go (Some coins) = refl
-
-pub none_left : (txid : Hash32) (outputs : List TxOut) (i : ℕ) → length outputs ≤ i → length (left_from txid i outputs) ≡ 0
-none_left txid outputs i done = at_drop_all (λ (rest : List TxOut). length (filter (λ n. is_spendable n.1) (numbered txid i rest))) outputs i done
-
--- an output that can be spent is a coin that fits
-pub output_fits : (at : ℕ) (tx : Tx) (outputs : List TxOut) (i : ℕ) (output : TxOut) → i < length outputs → output ≡ get_or outputs i output → All (λ o. output_value o ≤ max_money) outputs → at < 2 ^ 31 → is_spendable output ≡ true → CoinFits (coin_of at tx output)
-output_fits at tx outputs i output within is values low e = record {
-  value = let P : TxOut → Type 0 = λ o. output_value o ≤ max_money in subst P (sym is) (values i output within);
-  script = ltb-false max_script_size (length output.script) (short (starts_with nat_eq output.script (0x6a ∷ [])) (nat_lt max_script_size (length output.script)) e);
-  height = low;
-}
-  where
-    short : (a b : Bool) → not (a || b) ≡ true → b ≡ false
-    short true b e = absurd cc
-    short false true e = absurd cc
-    short false false e = refl

@@ -10,10 +10,8 @@ use Rattle.std.specs.BTreeMap as tree
 use Rattle.std.specs.BTreeMap.{BTreeMap}
 use Rattle.base_types.proofs.KeyOrders.{outpoint_cmp_total, outpoint_cmp-IsAntisymmetric}
 use Rattle.base_types.specs.Keys.{outpoint_cmp}
-use Rattle.base_types.specs.Coins.{Coins, CoinFits}
-use Rattle.base_types.specs.declared.coin.Coin.{Coin}
 use Rattle.base_types.specs.declared.hash.OutPoint.{OutPoint}
-use Rattle.chain_model.specs.Changes.{Changes, ChangesFit, CoinsFit}
+use Rattle.chain_model.specs.Changes.{Changes, ChangesFit}
 use Rattle.chain_model.proofs.Changing.{absent, both_true, tied}
 use Rattle.chain_model.proofs.Entries.{put_entry, taken_entry}
 use Rattle.chain_model.proofs.Worth.{same_key}
@@ -61,9 +59,10 @@ module _ {X : Type 0} (P : X → Type 0) where
   by_find : (es : List (OutPoint × X)) → T (is_sorted outpoint_cmp es) → ((q : OutPoint) → IfSome (find outpoint_cmp q es) P) → AllByRecursion (λ e. P e.1) es
   by_find [] rising all = tt
   by_find (e ∷ es) rising all =
-      let parts = both_true (below_all outpoint_cmp e.0 es) (is_sorted outpoint_cmp es) rising in
-      (at (find outpoint_cmp e.0 (e ∷ es)) (Some e.1) (sym (ap (λ (b : Bool). cond b (Some e.1) (find outpoint_cmp e.0 es)) (same_key e.0))) (all e.0),
-       by_find es parts.1 (λ q. go q (eq_by_cmp outpoint_cmp q e.0) refl parts.0 (all q)))
+      let parts = both_true (below_all outpoint_cmp e.0 es) (is_sorted outpoint_cmp es) rising in (
+        at (find outpoint_cmp e.0 (e ∷ es)) (Some e.1) (sym (ap (λ (b : Bool). cond b (Some e.1) (find outpoint_cmp e.0 es)) (same_key e.0))) (all e.0),
+        by_find es parts.1 (λ q. go q (eq_by_cmp outpoint_cmp q e.0) refl parts.0 (all q)),
+      )
     where
       go : (q : OutPoint) (b : Bool) → eq_by_cmp outpoint_cmp q e.0 ≡ b → T (below_all outpoint_cmp e.0 es) → IfSome (cond b (Some e.1) (find outpoint_cmp q es)) P → IfSome (find outpoint_cmp q es) P
       go q true ties below here = at None (find outpoint_cmp q es) (ap (λ (k : OutPoint). find outpoint_cmp k es) (tied q e.0 ties) ∙ absent e.0 es below) tt
@@ -77,6 +76,3 @@ module _ {X : Type 0} (P : X → Type 0) where
 -- the same of an equal map
 pub changes_fit : (old new : Changes) → old ≡ new → ChangesFit old → ChangesFit new
 changes_fit old new e fits = let P : Changes → Type 0 = λ changes. ChangesFit changes in subst P e fits
-
-pub coins_fit : (old new : Coins) → old ≡ new → CoinsFit old → CoinsFit new
-coins_fit old new e fits = let P : Coins → Type 0 = λ coins. CoinsFit coins in subst P e fits

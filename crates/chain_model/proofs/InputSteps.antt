@@ -1,8 +1,8 @@
 -- Inputs whose coins are spent one by one.
-use Rattle.std.proofs.Common.{◌≡◌, ◌<◌, ◌≤◌, ◌+◌, ◌||◌, ℕ, List, [], ◌∷◌, ◌++◌, length, drop, get_or, map, Bool, true, false, Option, Some, None, Result, Ok, refl, sym, ap, subst, ◌∙◌}
+use Rattle.std.proofs.Common.{◌≡◌, ◌<◌, ◌+◌, ◌||◌, ℕ, List, [], ◌∷◌, ◌++◌, length, drop, get_or, map, Bool, true, false, Option, Some, None, refl, sym, ap, subst, ◌∙◌}
 use Rattle.std.specs.Prelude.{Contains, IfSome, option_map}
 use Rattle.std.specs.List.{list_any}
-use Rattle.std.proofs.lemmas.List.{at_drop_more, at_drop_all, append_assoc, append-nil}
+use Rattle.std.proofs.lemmas.List.{at_drop_more, append_assoc}
 use Rattle.std.specs.FinMap.{get, remove}
 use Rattle.base_types.specs.Coins.{Coins}
 use Rattle.base_types.specs.declared.coin.Coin.{Coin}
@@ -11,7 +11,6 @@ use Rattle.block_codec.specs.declared.block.TxIn.{TxIn}
 use Rattle.chain_model.specs.BodyRules.{same_outpoint, has_twin_inputs}
 use Rattle.chain_model.specs.Coins.{and_coins, spent_by, without}
 use Rattle.chain_model.specs.Editing.{Among}
-use Rattle.chain_model.proofs.Telling.{answered}
 use Rattle.chain_model.proofs.Worth.{still_there}
 
 -- coins before others, if all are there
@@ -25,11 +24,6 @@ one_behind before coin (Some rest) = ap (λ (all : List Coin). Some all) (sym (a
 neither : (a b : Bool) → (a || b) ≡ false → (a ≡ false) × (b ≡ false)
 neither true b e = absurd cc
 neither false b e = (refl, e)
-
--- coins that were added to none
-pub none_behind : (others : Option (List Coin)) → behind [] others ≡ others
-none_behind None = refl
-none_behind (Some rest) = refl
 
 module _ (inputs : List TxIn) (i : ℕ) (input : TxIn) (within : i < length inputs) (is : input ≡ get_or inputs i input) where
   here : {A : Type 0} (f : List TxIn → A) → f (drop i inputs) ≡ f (input ∷ drop (i + 1) inputs)
@@ -66,29 +60,3 @@ module _ (inputs : List TxIn) (i : ℕ) (input : TxIn) (within : i < length inpu
       go : (o : Option Coins) → option_map (without (drop (i + 1) inputs)) (option_map (λ coins. remove coins input.prev) o) ≡ option_map (without (drop i inputs)) o
       go None = refl
       go (Some coins) = ap (λ (left : Coins). Some left) (sym (here (λ (rest : List TxIn). without rest coins)))
-
-  pub missing : (now first : Option Coins) (before : List Coin) → option_map (λ coins. behind before (spent_by coins (drop i inputs))) now ≡ option_map (λ coins. spent_by coins inputs) first → IfSome now (λ coins. None ≡ get coins input.prev) → IfSome first (λ coins. spent_by coins inputs ≡ None)
-  missing now first before so_far none = answered (λ coins. behind before (spent_by coins (drop i inputs))) (λ coins. spent_by coins inputs) None now first so_far (go now none)
-    where
-      go : (o : Option Coins) → IfSome o (λ coins. None ≡ get coins input.prev) → IfSome o (λ coins. behind before (spent_by coins (drop i inputs)) ≡ None)
-      go None h = tt
-      go (Some coins) h =
-          here (λ (rest : List TxIn). behind before (spent_by coins rest))
-          ∙ ap (λ (one : Option Coin). behind before (and_coins one (spent_by coins (drop (i + 1) inputs)))) (sym h)
-
-module _ (inputs : List TxIn) (i : ℕ) (done : length inputs ≤ i) where
-  pub all_spent : (now first : Option Coins) (before : List Coin) → option_map (λ coins. behind before (spent_by coins (drop i inputs))) now ≡ option_map (λ coins. spent_by coins inputs) first → IfSome first (λ coins. spent_by coins inputs ≡ Some before)
-  all_spent now first before so_far = answered (λ coins. behind before (spent_by coins (drop i inputs))) (λ coins. spent_by coins inputs) (Some before) now first so_far (go now)
-    where
-      go : (o : Option Coins) → IfSome o (λ coins. behind before (spent_by coins (drop i inputs)) ≡ Some before)
-      go None = tt
-      go (Some coins) =
-          at_drop_all (λ (rest : List TxIn). behind before (spent_by coins rest)) inputs i done
-          ∙ ap (λ (all : List Coin). Some all) (append-nil before)
-
-  pub all_left : (now first : Option Coins) → option_map (without (drop i inputs)) now ≡ option_map (without inputs) first → now ≡ option_map (without inputs) first
-  all_left now first so_far = sym (at_drop_all (λ (rest : List TxIn). option_map (without rest) now) inputs i done ∙ same now) ∙ so_far
-    where
-      same : (o : Option Coins) → option_map (without []) o ≡ o
-      same None = refl
-      same (Some coins) = refl

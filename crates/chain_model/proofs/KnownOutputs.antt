@@ -1,8 +1,8 @@
 -- Outputs whose outpoints have coins, where coins are told.
-use Rattle.std.proofs.Common.{◌≡◌, ◌<◌, ◌≤◌, ◌+◌, ◌||◌, ℕ, List, [], ◌∷◌, length, drop, Bool, true, false, Option, Some, None, refl, sym, ap, ◌∙◌, add-one}
+use Rattle.std.proofs.Common.{◌≡◌, ◌<◌, ◌+◌, ◌||◌, ℕ, List, ◌∷◌, length, drop, Bool, true, false, Option, Some, None, sym, ap, ◌∙◌, add-one}
 use Rattle.std.specs.Prelude.{IfSome, is_some}
 use Rattle.std.specs.List.{list_any}
-use Rattle.std.proofs.lemmas.List.{at_drop_more, at_drop_all}
+use Rattle.std.proofs.lemmas.List.{at_drop_more}
 use Rattle.std.specs.FinMap.{get, contains_key}
 use Rattle.base_types.specs.Coins.{Coins}
 use Rattle.base_types.specs.declared.coin.Coin.{Coin}
@@ -39,29 +39,9 @@ module _ (txid : Hash32) (outputs : List TxOut) (i : ℕ) (within : i < length o
         go None f s = tt
         go (Some coins) f s = sym (from_here coins ∙ ap (λ (b : Bool). b || some_known coins txid (i + 1) (drop (i + 1) outputs)) (ap is_some (sym f) ∙ e)) ∙ s
 
-pub some_known_first : (told : Option Coins) (txid : Hash32) (outputs : List TxOut) → IfSome told (λ coins. some_known coins txid 0 (drop 0 outputs) ≡ some_known coins txid 0 outputs)
-some_known_first None txid outputs = tt
-some_known_first (Some coins) txid outputs = refl
-
-pub none_known : (told : Option Coins) (txid : Hash32) (outputs : List TxOut) (i : ℕ) → length outputs ≤ i → IfSome told (λ coins. some_known coins txid i (drop i outputs) ≡ some_known coins txid 0 outputs) → IfSome told (λ coins. false ≡ some_known coins txid 0 outputs)
-none_known None txid outputs i done so_far = tt
-none_known (Some coins) txid outputs i done so_far = sym (at_drop_all (λ (rest : List TxOut). some_known coins txid i rest) outputs i done) ∙ so_far
-
 -- ---- transaction by transaction
 
 module _ (tx : Tx) (rest txs : List Tx) where
-  pub overwritten_here : (told : Option Coins) → IfSome told (λ coins. overwrites coins (tx ∷ rest) ≡ overwrites coins txs) → IfSome told (λ coins. true ≡ list_any (λ named. contains_key coins named.0) (outputs_of tx)) → IfSome told (λ coins. true ≡ overwrites coins txs)
-  overwritten_here None so_far found = tt
-  overwritten_here (Some coins) so_far found = ap (λ (b : Bool). b || overwrites coins rest) found ∙ so_far
-
   pub overwritten_later : (told : Option Coins) → IfSome told (λ coins. overwrites coins (tx ∷ rest) ≡ overwrites coins txs) → IfSome told (λ coins. false ≡ list_any (λ named. contains_key coins named.0) (outputs_of tx)) → IfSome told (λ coins. overwrites coins rest ≡ overwrites coins txs)
   overwritten_later None so_far found = tt
   overwritten_later (Some coins) so_far found = ap (λ (b : Bool). b || overwrites coins rest) found ∙ so_far
-
-pub overwritten_first : (told : Option Coins) (txs : List Tx) → IfSome told (λ coins. overwrites coins txs ≡ overwrites coins txs)
-overwritten_first None txs = tt
-overwritten_first (Some coins) txs = refl
-
-pub none_overwritten : (told : Option Coins) (rest txs : List Tx) → rest ≡ [] → IfSome told (λ coins. overwrites coins rest ≡ overwrites coins txs) → IfSome told (λ coins. false ≡ overwrites coins txs)
-none_overwritten None rest txs done so_far = tt
-none_overwritten (Some coins) rest txs done so_far = sym (ap (λ (some : List Tx). overwrites coins some) done) ∙ so_far

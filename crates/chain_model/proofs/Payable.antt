@@ -1,5 +1,5 @@
 -- The transactions of a block whose body breaks no rule.
-use Rattle.std.proofs.Common.{◌≡◌, ◌≤◌, ◌||◌, ℤ, pos, negsuc, List, [], ◌∷◌, map, Bool, true, false, Option, Some, None, refl, arith}
+use Rattle.std.proofs.Common.{◌≡◌, ◌≤◌, ◌||◌, ℤ, pos, negsuc, List, [], ◌∷◌, map, Bool, true, false, None, refl}
 use Rattle.std.specs.Prelude.{All, ◌+ℤ◌}
 use Rattle.std.proofs.lemmas.Bool.{ltb-false}
 use Rattle.std.proofs.lemmas.List.Elements.{All-nil, All-cons}
@@ -7,8 +7,8 @@ use Rattle.base_types.specs.Parameters.{max_money}
 use Rattle.base_types.specs.declared.coin.TxOut.{TxOut}
 use Rattle.block_codec.specs.declared.block.Tx.{Tx}
 use Rattle.block_codec.specs.declared.block.Block.{Block}
-use Rattle.chain_model.specs.Rules.{first_broken, first_some}
-use Rattle.chain_model.specs.BodyRules.{Place, has_bad_value, has_twin_inputs, is_out_of_range, tx_broken, body_broken}
+use Rattle.chain_model.specs.Rules.{first_some}
+use Rattle.chain_model.specs.BodyRules.{Place, has_bad_value, is_out_of_range, tx_broken, body_broken}
 use Rattle.chain_model.specs.Coins.{output_value, satoshis}
 use Rattle.chain_model.specs.Connecting.{IsPayable}
 use Rattle.chain_model.proofs.Minting.{first_fine, unbroken, single_inputs, sound_txs}

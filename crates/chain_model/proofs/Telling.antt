@@ -1,9 +1,9 @@
 -- Coins that are told or not, and edits of them.
-use Rattle.std.proofs.Common.{◌≡◌, ◌||◌, List, [], ◌∷◌, ◌++◌, Bool, true, false, cond, Option, Some, None, Result, Ok, Err, suc, refl, sym, ap, subst, ◌∙◌, arith}
+use Rattle.std.proofs.Common.{◌≡◌, List, [], ◌∷◌, ◌++◌, Bool, true, false, cond, Option, Some, None, Result, Ok, Err, suc, refl, sym, ap, subst, ◌∙◌, arith}
 use Rattle.std.specs.Prelude.{Contains, IfSome, is_some, option_map, filter, map}
 use Rattle.std.specs.List.{list_any, flat_map}
 use Rattle.std.proofs.lemmas.List.Folds.{list_any_at}
-use Rattle.std.specs.FinMap.{get, insert, remove, get-insert, get-remove}
+use Rattle.std.specs.FinMap.{get, get-insert, get-remove}
 use Rattle.base_types.proofs.KeyOrders.{outpoint_cmp_total}
 use Rattle.base_types.specs.Coins.{Coins}
 use Rattle.base_types.specs.Views.{AnswersCoin, with_coin, without_coin}

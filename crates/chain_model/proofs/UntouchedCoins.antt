@@ -25,13 +25,13 @@ neither false b e = (refl, e)
 
 module _ (key : OutPoint) where
   -- the outpoint is among these
-  abbrev among : List OutPoint → Bool
+  abbrev pub among : List OutPoint → Bool
   among outpoints = list_any (same_outpoint key) outpoints
 
   apart : (xs ys : List OutPoint) → among (xs ++ ys) ≡ false → (among xs ≡ false) × (among ys ≡ false)
   apart xs ys e = neither (among xs) (among ys) (sym (list_any-append (same_outpoint key) xs ys) ∙ e)
 
-  inputs_pass : (inputs : List TxIn) (coins : Coins) → among (map (λ input. input.prev) inputs) ≡ false → get (without inputs coins) key ≡ get coins key
+  pub inputs_pass : (inputs : List TxIn) (coins : Coins) → among (map (λ input. input.prev) inputs) ≡ false → get (without inputs coins) key ≡ get coins key
   inputs_pass [] coins e = refl
   inputs_pass (input ∷ inputs) coins e =
       let p = neither (same_outpoint key input.prev) (among (map (λ i. i.prev) inputs)) e in
@@ -47,7 +47,7 @@ module _ (key : OutPoint) where
       ∙ get-insert outpoint_cmp_total coins n.0 (coin_of at tx n.1) key
       ∙ ap (λ (b : Bool). cond b (Some (coin_of at tx n.1)) (get coins key)) (tied_outpoints key n.0 ∙ p.0)
 
-  outputs_pass : (at : ℕ) (tx : Tx) (coins : Coins) → among (outputs_named tx) ≡ false → get (with_outputs at tx coins) key ≡ get coins key
+  pub outputs_pass : (at : ℕ) (tx : Tx) (coins : Coins) → among (outputs_named tx) ≡ false → get (with_outputs at tx coins) key ≡ get coins key
   outputs_pass at tx coins e = entries_pass at tx (spendable_of tx) coins e
 
   txs_pass : (position : Position) (txs : List Tx) (paid last : Paid) → after_txs position paid txs ≡ Ok last → among (flat_map inputs_named txs) ≡ false → among (flat_map outputs_named txs) ≡ false → get last.coins key ≡ get paid.coins key

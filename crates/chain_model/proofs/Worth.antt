@@ -112,7 +112,7 @@ still_there coins key (input ∷ inputs) e =
     ∙ ap (λ (o : Option (List Coin)). and_coins (get coins input.prev) o) (still_there coins key inputs p.1)
 
 -- the first coin and the others
-both_there : (first : Option Coin) (others : Option (List Coin)) (spent : List Coin) → and_coins first others ≡ Some spent → (coin : Coin) × (rest : List Coin) × (first ≡ Some coin) × (others ≡ Some rest) × (coin ∷ rest ≡ spent)
+pub both_there : (first : Option Coin) (others : Option (List Coin)) (spent : List Coin) → and_coins first others ≡ Some spent → (coin : Coin) × (rest : List Coin) × (first ≡ Some coin) × (others ≡ Some rest) × (coin ∷ rest ≡ spent)
 both_there None others spent e = absurd cc
 both_there (Some coin) None spent e = absurd cc
 both_there (Some coin) (Some rest) spent e = (coin, rest, refl, refl, cc)

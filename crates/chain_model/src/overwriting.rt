@@ -35,11 +35,7 @@ pub(crate) fn overwrites<V: View>(
     Ok(false)
 }
 
-fn has_output<V: View>(
-    coins: &mut V,
-    txid: &Hash32,
-    outputs: &[TxOut],
-) -> Result<bool, StoreFault>
+fn has_output<V: View>(coins: &mut V, txid: &Hash32, outputs: &[TxOut]) -> Result<bool, StoreFault>
     ensures found { IfOk result (λ found. IfSome (V.coins coins.old) (λ before. found ≡ list_any (λ named. contains_key before named.0) (numbered txid.now 0 outputs.now))) }
     ensures coins { V.coins coins.new ≡ V.coins coins.old }
     ensures cause { FindsFault (length outputs.now) (V.counts coins.old) (V.counts coins.new) result }

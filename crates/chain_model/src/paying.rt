@@ -1,6 +1,6 @@
 //! The rules of coins on a block, over any coins that can be changed (`ConnectBlock` in Bitcoin Core's `validation.cpp`).
 
-ghost use Rattle.std.specs.Prelude.{◌≡◌, ◌≤◌, ◌+◌, ◌<◌, ◌^◌, List, All, Ok, Err, IfOk, IfSome, length, map, sum_by, option_map};
+ghost use Rattle.std.specs.Prelude.{◌≡◌, ◌≤◌, ◌+◌, ◌<◌, ◌^◌, List, All, Ok, Err, IfOk, IfSome, map, sum_by, option_map};
 ghost use Rattle.std.specs.List.{flat_map};
 ghost use Rattle.base_types.specs.Coins.{Coins, CoinFits};
 ghost use Rattle.base_types.specs.Parameters.{max_money};

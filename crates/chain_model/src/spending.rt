@@ -6,7 +6,7 @@ ghost use Rattle.base_types.specs.declared.refused.CoinRefused.TheVariants.{InBe
 ghost use Rattle.chain_model.specs.Apply.{is_immature as immature, coins_broken, unless};
 ghost use Rattle.chain_model.specs.Rules.{first_broken};
 ghost use Rattle.base_types.specs.Parameters.{max_money};
-ghost use Rattle.chain_model.specs.Coins.{value_of_coins, value_of_outputs};
+ghost use Rattle.chain_model.specs.Coins.{value_of_coins};
 ghost use Rattle.chain_model.specs.Fees.{fees_by};
 
 use crate::context::Context;

@@ -1,3 +1,7 @@
+ghost use Rattle.std.specs.Prelude.{IfOk};
+ghost use Rattle.base_types.specs.Coins.{CoinFits};
+ghost use Rattle.chain_model.specs.Connecting.{IsPayable};
+
 use crate::applying::apply;
 use crate::fault::ApplyFault;
 use crate::plain::Plain;
@@ -58,7 +62,10 @@ impl TreeView for NoTree {
 }
 
 // A transaction that spends an output for one of so many satoshis.
-fn tx_of(alloc: Global, prev: OutPoint, value: i64) -> Result<Tx, AllocError> {
+#[tactic(auto, unfolding(crate::specs::BodyRules::has_twin_inputs))]
+fn tx_of(alloc: Global, prev: OutPoint, value: u32) -> Result<Tx, AllocError>
+    ensures { IfOk result IsPayable }
+{
     let mut inputs = Inputs::new(alloc);
     inputs.push(TxIn {
         prev,
@@ -68,7 +75,7 @@ fn tx_of(alloc: Global, prev: OutPoint, value: i64) -> Result<Tx, AllocError> {
     })?;
     let mut outputs = Outputs::new(alloc);
     outputs.push(TxOut {
-        value,
+        value: i64::from(value),
         script: Script::from_slice(alloc, &[0x51])?,
     })?;
     Ok(Tx {
@@ -79,9 +86,11 @@ fn tx_of(alloc: Global, prev: OutPoint, value: i64) -> Result<Tx, AllocError> {
     })
 }
 
-fn coin_of(alloc: Global, value: u64) -> Coin {
+fn coin_of(alloc: Global, value: u32) -> Coin
+    ensures { CoinFits result }
+{
     Coin {
-        value,
+        value: u64::from(value),
         script: Script::new(alloc),
         height: 0,
         coinbase: false,

@@ -4,7 +4,7 @@ use Rattle.std.proofs.Common.{subst}
 use Rattle.std.proofs.lemmas.List.Elements.{All-push}
 use Rattle.base_types.specs.Coins.{Coins, CoinFits}
 use Rattle.base_types.specs.declared.coin.Coin.{Coin}
-use Rattle.std.specs.FinMap.{get, remove}
+use Rattle.std.specs.FinMap.{get}
 use Rattle.chain_model.specs.Coins.{spent_by}
 use Rattle.chain_model.proofs.Calls.{answered_then}
 use Rattle.chain_model.proofs.InputSteps.{behind, input_among, single_next, spent_next, left_next}
@@ -14,23 +14,26 @@ use Rattle.chain_model.proofs.editing.spend_inputs.Goals as goal
 pub returns-in_err-coin-clause-within : goal.returns-in_err-coin-clause-within
 returns-in_err-coin-clause-within g c keys all =
     let w = c.loop-input.invariant.within keys all in
-    let a = input_among c.args.inputs.now c.loop-input.input-index c.input-item.result (omega arith) c.input-item.is keys w.0 in
-    (g.met.E.View.behind_then keys c.args.coins.now c.loop-input.coins c.spend.new.self w.1 (c.in_err-coin.ensures.behind keys a.0),
-     edits_then keys (g.E.View.coins c.args.coins.now) (g.E.View.coins c.loop-input.coins) (g.E.View.coins c.spend.new.self) w.2 (edits_spend keys c.input-item.result.prev a.0 (Option Coin) (Err c.in_err-coin.field-0.0) (g.E.View.coins c.loop-input.coins) (g.E.View.coins c.spend.new.self) c.in_err-coin.ensures.coins))
+    let a = input_among c.args.inputs.now c.loop-input.input-index c.input-item.result (omega arith) c.input-item.is keys w.0 in (
+      g.met.E.View.behind_then keys c.args.coins.now c.loop-input.coins c.spend.new.self w.1 (c.in_err-coin.ensures.behind keys a.0),
+      edits_then keys (g.E.View.coins c.args.coins.now) (g.E.View.coins c.loop-input.coins) (g.E.View.coins c.spend.new.self) w.2 (edits_spend keys c.input-item.result.prev a.0 (Option Coin) (Err c.in_err-coin.field-0.0) (g.E.View.coins c.loop-input.coins) (g.E.View.coins c.spend.new.self) c.in_err-coin.ensures.coins),
+    )
 
 pub returns-in_default-clause-within : goal.returns-in_default-clause-within
 returns-in_default-clause-within g c keys all =
     let w = c.loop-input.invariant.within keys all in
-    let a = input_among c.args.inputs.now c.loop-input.input-index c.input-item.result (omega arith) c.input-item.is keys w.0 in
-    (g.met.E.View.behind_then keys c.args.coins.now c.loop-input.coins c.spend.new.self w.1 (c.in_ok-coin.ensures.behind keys a.0),
-     edits_then keys (g.E.View.coins c.args.coins.now) (g.E.View.coins c.loop-input.coins) (g.E.View.coins c.spend.new.self) w.2 (edits_spend keys c.input-item.result.prev a.0 (Option Coin) (Ok c.in_ok-coin.field-0) (g.E.View.coins c.loop-input.coins) (g.E.View.coins c.spend.new.self) c.in_ok-coin.ensures.coins))
+    let a = input_among c.args.inputs.now c.loop-input.input-index c.input-item.result (omega arith) c.input-item.is keys w.0 in (
+      g.met.E.View.behind_then keys c.args.coins.now c.loop-input.coins c.spend.new.self w.1 (c.in_ok-coin.ensures.behind keys a.0),
+      edits_then keys (g.E.View.coins c.args.coins.now) (g.E.View.coins c.loop-input.coins) (g.E.View.coins c.spend.new.self) w.2 (edits_spend keys c.input-item.result.prev a.0 (Option Coin) (Ok c.in_ok-coin.field-0) (g.E.View.coins c.loop-input.coins) (g.E.View.coins c.spend.new.self) c.in_ok-coin.ensures.coins),
+    )
 
 pub returns-in_err-push-clause-within : goal.returns-in_err-push-clause-within
 returns-in_err-push-clause-within g c keys all =
     let w = c.loop-input.invariant.within keys all in
-    let a = input_among c.args.inputs.now c.loop-input.input-index c.input-item.result (omega arith) c.input-item.is keys w.0 in
-    (g.met.E.View.behind_then keys c.args.coins.now c.loop-input.coins c.spend.new.self w.1 (c.in_ok-coin.ensures.behind keys a.0),
-     edits_then keys (g.E.View.coins c.args.coins.now) (g.E.View.coins c.loop-input.coins) (g.E.View.coins c.spend.new.self) w.2 (edits_spend keys c.input-item.result.prev a.0 (Option Coin) (Ok c.in_ok-coin.field-0) (g.E.View.coins c.loop-input.coins) (g.E.View.coins c.spend.new.self) c.in_ok-coin.ensures.coins))
+    let a = input_among c.args.inputs.now c.loop-input.input-index c.input-item.result (omega arith) c.input-item.is keys w.0 in (
+      g.met.E.View.behind_then keys c.args.coins.now c.loop-input.coins c.spend.new.self w.1 (c.in_ok-coin.ensures.behind keys a.0),
+      edits_then keys (g.E.View.coins c.args.coins.now) (g.E.View.coins c.loop-input.coins) (g.E.View.coins c.spend.new.self) w.2 (edits_spend keys c.input-item.result.prev a.0 (Option Coin) (Ok c.in_ok-coin.field-0) (g.E.View.coins c.loop-input.coins) (g.E.View.coins c.spend.new.self) c.in_ok-coin.ensures.coins),
+    )
 
 -- the coin that was found
 found_coin : (told : Option Coins) (answer : Option Coin) (coin : Coin) (f : Coins → Option Coin) → answer ≡ Some coin → IfSome told (λ coins. answer ≡ f coins) → IfSome told (λ coins. Some coin ≡ f coins)

@@ -18,9 +18,10 @@ pub returns-in_err-take_coin-clause-within : goal.returns-in_err-take_coin-claus
 returns-in_err-take_coin-clause-within g c keys all =
     let w = c.loop-index.invariant.within keys all in
     let key : OutPoint = record { txid = c.args.txid.now; index = c.in_ok-number_of.field-0 } in
-    let a = among_here (txid_of c.args.tx.now) c.as_slice-output-items.result.now c.loop-index.index c.output-item.result (omega arith) c.output-item.is key (at_key c.args.txid.now (txid_of c.args.tx.now) c.in_ok-number_of.field-0 c.loop-index.index c.requires c.in_ok-number_of.ensures) keys (sym c.is_spendable.ensures ∙ c.if-is_spendable.true) w.0 in
-    (g.met.E.View.behind_then keys c.args.coins.now c.loop-index.coins c.take_coin.new.coins w.1 (c.in_err-take_coin.ensures.behind keys a.0),
-     edits_then keys (g.E.View.coins c.args.coins.now) (g.E.View.coins c.loop-index.coins) (g.E.View.coins c.take_coin.new.coins) w.2 (edits_spend keys key a.0 (Unit {0}) (Err c.in_err-take_coin.field-0.0) (g.E.View.coins c.loop-index.coins) (g.E.View.coins c.take_coin.new.coins) c.in_err-take_coin.ensures.coins))
+    let a = among_here (txid_of c.args.tx.now) c.as_slice-output-items.result.now c.loop-index.index c.output-item.result (omega arith) c.output-item.is key (at_key c.args.txid.now (txid_of c.args.tx.now) c.in_ok-number_of.field-0 c.loop-index.index c.requires c.in_ok-number_of.ensures) keys (sym c.is_spendable.ensures ∙ c.if-is_spendable.true) w.0 in (
+      g.met.E.View.behind_then keys c.args.coins.now c.loop-index.coins c.take_coin.new.coins w.1 (c.in_err-take_coin.ensures.behind keys a.0),
+      edits_then keys (g.E.View.coins c.args.coins.now) (g.E.View.coins c.loop-index.coins) (g.E.View.coins c.take_coin.new.coins) w.2 (edits_spend keys key a.0 (Unit {0}) (Err c.in_err-take_coin.field-0.0) (g.E.View.coins c.loop-index.coins) (g.E.View.coins c.take_coin.new.coins) c.in_err-take_coin.ensures.coins),
+    )
 
 pub loop-index-preserved : goal.loop-index-preserved
 loop-index-preserved g c =
@@ -47,10 +48,11 @@ loop-index-preserved g c =
             );
             within = λ keys all.
                 let so_far = c.loop-index.invariant.within keys all in
-                let a = among_here id outputs i output (omega arith) c.output-item.is key named keys spendable so_far.0 in
-                (a.1,
-                 g.met.E.View.behind_then keys c.args.coins.now c.loop-index.coins w.take_coin.new.coins so_far.1 (w.in_ok-take_coin.ensures.behind keys a.0),
-                 edits_then keys (g.E.View.coins c.args.coins.now) (g.E.View.coins c.loop-index.coins) (g.E.View.coins w.take_coin.new.coins) so_far.2 (edits_spend keys key a.0 (Unit {0}) (Ok w.in_ok-take_coin.field-0) (g.E.View.coins c.loop-index.coins) (g.E.View.coins w.take_coin.new.coins) w.in_ok-take_coin.ensures.coins));
+                let a = among_here id outputs i output (omega arith) c.output-item.is key named keys spendable so_far.0 in (
+                  a.1,
+                  g.met.E.View.behind_then keys c.args.coins.now c.loop-index.coins w.take_coin.new.coins so_far.1 (w.in_ok-take_coin.ensures.behind keys a.0),
+                  edits_then keys (g.E.View.coins c.args.coins.now) (g.E.View.coins c.loop-index.coins) (g.E.View.coins w.take_coin.new.coins) so_far.2 (edits_spend keys key a.0 (Unit {0}) (Ok w.in_ok-take_coin.field-0) (g.E.View.coins c.loop-index.coins) (g.E.View.coins w.take_coin.new.coins) w.in_ok-take_coin.ensures.coins),
+                );
           }
       | else-is_spendable w ↦
           let key : OutPoint = record { txid = id; index = i } in

@@ -1,10 +1,10 @@
-use Rattle.std.proofs.Common.{◌≡◌, ◌++◌, List, drop, sym, ap, subst}
+use Rattle.std.proofs.Common.{◌≡◌, List, sym, subst}
 use Rattle.std.specs.List.{flat_map}
 use Rattle.base_types.specs.declared.hash.OutPoint.{OutPoint}
 use Rattle.block_codec.specs.declared.block.Tx.{Tx}
 use Rattle.chain_model.specs.BodyRules.{others_of}
-use Rattle.chain_model.specs.Connecting.{asked_by, outputs_asked}
-use Rattle.chain_model.specs.Editing.{Among, EditsOnly}
+use Rattle.chain_model.specs.Connecting.{outputs_asked}
+use Rattle.chain_model.specs.Editing.{Among}
 use Rattle.chain_model.specs.Laws.{inputs_named, outputs_named, named_by}
 use Rattle.chain_model.proofs.Telling.{among_itself, among_named, among_split, edits_same, edits_then}
 use Rattle.chain_model.proofs.paying.apply_over.Goals as goal

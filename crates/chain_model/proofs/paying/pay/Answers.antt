@@ -1,4 +1,4 @@
-use Rattle.std.proofs.Common.{◌≡◌, List, ap, sym, subst, map}
+use Rattle.std.proofs.Common.{◌≡◌, List, sym, subst, map}
 use Rattle.base_types.specs.declared.hash.OutPoint.{OutPoint}
 use Rattle.block_codec.specs.declared.block.TxIn.{TxIn}
 use Rattle.chain_model.specs.Editing.{Among}

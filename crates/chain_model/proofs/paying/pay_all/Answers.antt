@@ -1,4 +1,4 @@
-use Rattle.std.proofs.Common.{◌≡◌, ◌+◌, ◌++◌, ℕ, List, [], ◌∷◌, drop, map, Result, Ok, Err, ap, sym, subst, ◌∙◌, arith}
+use Rattle.std.proofs.Common.{◌≡◌, ◌+◌, ◌++◌, ℕ, List, [], ◌∷◌, drop, map, Err, ap, sym, subst, ◌∙◌, arith}
 use Rattle.std.specs.Prelude.{Option, All, IfSome, option_map, sum_by}
 use Rattle.std.specs.List.{flat_map}
 use Rattle.std.specs.Slice.Iter.{iter_rest}
@@ -14,7 +14,7 @@ use Rattle.base_types.specs.declared.hash.OutPoint.{OutPoint}
 use Rattle.base_types.specs.declared.refused.CoinRefused.{CoinRefused}
 use Rattle.block_codec.specs.declared.block.Tx.{Tx}
 use Rattle.block_codec.specs.Text.{txid_of}
-use Rattle.chain_model.specs.Apply.{Position, Paid, after_tx, after_txs, spent_in}
+use Rattle.chain_model.specs.Apply.{Position, after_tx, after_txs, spent_in}
 use Rattle.chain_model.specs.Connecting.{IsPayable, OnRefusal, calls_to_pay}
 use Rattle.chain_model.specs.Editing.{Among}
 use Rattle.chain_model.specs.Laws.{inputs_named, outputs_named}
@@ -75,9 +75,10 @@ returns-in_err-paid-clause-within g c keys ins outs =
     let w = c.loop-tx.invariant.within keys ins outs in
     let i = named_first inputs_named keys before rest tx more.0 w.0 in
     let o = named_first outputs_named keys before rest tx more.0 w.1 in
-    let then = c.in_err-paid.ensures.within keys i.0 o.0 in
-    (g.met.E.View.behind_then keys c.args.coins.now c.loop-tx.coins c.pay.new.coins w.2 then.0,
-     edits_then keys (g.E.View.coins c.args.coins.now) (g.E.View.coins c.loop-tx.coins) (g.E.View.coins c.pay.new.coins) w.3 then.1)
+    let then = c.in_err-paid.ensures.within keys i.0 o.0 in (
+      g.met.E.View.behind_then keys c.args.coins.now c.loop-tx.coins c.pay.new.coins w.2 then.0,
+      edits_then keys (g.E.View.coins c.args.coins.now) (g.E.View.coins c.loop-tx.coins) (g.E.View.coins c.pay.new.coins) w.3 then.1,
+    )
 
 pub loop-tx-preserved : goal.loop-tx-preserved
 loop-tx-preserved g c =
@@ -115,9 +116,12 @@ loop-tx-preserved g c =
           let w = c.loop-tx.invariant.within keys ins outs in
           let i = named_first inputs_named keys before rest tx more.0 w.0 in
           let o = named_first outputs_named keys before rest tx more.0 w.1 in
-          let then = c.in_ok-paid.ensures.within keys i.0 o.0 in
-          (i.1, o.1, g.met.E.View.behind_then keys c.args.coins.now c.loop-tx.coins c.pay.new.coins w.2 then.0,
-           edits_then keys (g.E.View.coins c.args.coins.now) now next w.3 then.1);
+          let then = c.in_ok-paid.ensures.within keys i.0 o.0 in (
+            i.1,
+            o.1,
+            g.met.E.View.behind_then keys c.args.coins.now c.loop-tx.coins c.pay.new.coins w.2 then.0,
+            edits_then keys (g.E.View.coins c.args.coins.now) now next w.3 then.1,
+          );
     }
 
 pub returns-in_err-push-clause-within : goal.returns-in_err-push-clause-within
@@ -129,9 +133,10 @@ returns-in_err-push-clause-within g c keys ins outs =
     let w = c.loop-tx.invariant.within keys ins outs in
     let i = named_first inputs_named keys before rest tx more.0 w.0 in
     let o = named_first outputs_named keys before rest tx more.0 w.1 in
-    let then = c.in_ok-paid.ensures.within keys i.0 o.0 in
-    (g.met.E.View.behind_then keys c.args.coins.now c.loop-tx.coins c.pay.new.coins w.2 then.0,
-     edits_then keys (g.E.View.coins c.args.coins.now) (g.E.View.coins c.loop-tx.coins) (g.E.View.coins c.pay.new.coins) w.3 then.1)
+    let then = c.in_ok-paid.ensures.within keys i.0 o.0 in (
+      g.met.E.View.behind_then keys c.args.coins.now c.loop-tx.coins c.pay.new.coins w.2 then.0,
+      edits_then keys (g.E.View.coins c.args.coins.now) (g.E.View.coins c.loop-tx.coins) (g.E.View.coins c.pay.new.coins) w.3 then.1,
+    )
 
 pub returns-clause-ok : goal.returns-clause-ok
 returns-clause-ok g c =

@@ -1,6 +1,5 @@
-use Rattle.std.proofs.Common.{ℕ, ◌≡◌, ◌+◌, Option, ap, ◌∙◌}
+use Rattle.std.proofs.Common.{ℕ, ◌+◌, Option, ap, ◌∙◌}
 use Rattle.std.specs.Prelude.{unwrap_or}
-use Rattle.chain_model.specs.Tree.{height}
 use Rattle.chain_model.proofs.Missing.{height_or_zero}
 use Rattle.chain_model.proofs.context.Context.below.Goals as goal
 

@@ -2,7 +2,6 @@ use Rattle.std.proofs.Common.{◌≡◌, Some, None, ap, ◌∙◌}
 use Rattle.std.specs.Prelude.{Option}
 use Rattle.std.specs.FinMap.{remove}
 use Rattle.base_types.specs.Coins.{Coins}
-use Rattle.base_types.specs.declared.hash.OutPoint.{OutPoint}
 use Rattle.chain_model.specs.Changes.{Changes, with_changes}
 use Rattle.chain_model.proofs.Changing.{with_one_more}
 use Rattle.chain_model.proofs.plain_edit.PlainEditCoinEdit.spend.Goals as goal
@@ -20,6 +19,6 @@ returns-clause-coins c =
     let now = c.get.new.self in
     let same : with_changes now.changes now.coins.now ≡ with_changes c.args.self.now.changes c.args.self.now.coins.now = same_told _ _ c.in_ok-coin.ensures.coins in
     ap some (
-      ap (λ (changes : Changes). with_changes changes now.coins.now) c.in_ok-spend.ensures.ok
-      ∙ with_one_more now.changes now.coins.now c.args.key.now None
-      ∙ ap (λ (coins : Coins). remove coins c.args.key.now) same)
+    ap (λ (changes : Changes). with_changes changes now.coins.now) c.in_ok-spend.ensures.ok
+    ∙ with_one_more now.changes now.coins.now c.args.key.now None
+    ∙ ap (λ (coins : Coins). remove coins c.args.key.now) same)

@@ -1,2 +1,3 @@
+mod Chunks
 mod Events
-mod Images
+pub mod Images

@@ -1,10 +1,11 @@
 -- What storing a piece of a store promises, as a call with one event.
-use Rattle.std.specs.Prelude.{⊤, ◌≡◌, ℕ, List, [], ◌∷◌, ◌++◌, Option, Some}
+use Rattle.std.specs.Prelude.{⊤, ◌≡◌, ℕ, ◌+◌, ◌*◌, ◌≤◌, List, [], ◌∷◌, ◌++◌, Option, Some}
 use Rattle.disk_model.specs.Disk.{Image, Rose}
 use Rattle.base_types.specs.declared.fault.StoreFault.{StoreFault}
 use Rattle.base_types.specs.declared.fault.StoreFault.TheVariants.{NoMemory, DiskFailed, Damaged, Full, CacheFull}
 use Rattle.base_types.specs.declared.flushes.Flushed.{Flushed}
 use Rattle.base_types.specs.declared.hash.Hash32.{Hash32}
+use Rattle.batch_log.specs.OpenLog.{IsOver, OpenLog}
 use Rattle.block_codec.specs.declared.block.Block.{Block}
 use Rattle.block_store.specs.Bodies.{body_text}
 use Rattle.coin_store.specs.Batches.{Row}
@@ -15,24 +16,35 @@ use Rattle.machine.specs.Calls.{Call, IsCall, IsWhole}
 use Rattle.machine.specs.State.{Event}
 use Rattle.store_state.specs.State.{StoreState, StoredBody, first_rules}
 
-abbrev pub event_call : ℕ → ℕ → Image → Image → List Flushed → Event → Call
-event_call entered ended contents after flushes event = record { entered = entered; ended = ended; contents = contents; after = after; flushes = flushes; events = event ∷ [] }
+abbrev pub events_call : ℕ → ℕ → Image → Image → List Flushed → List Event → Call
+events_call entered ended contents after flushes events = record { entered = entered; ended = ended; contents = contents; after = after; flushes = flushes; events = events }
 
--- the event is in each image, and the disk tells one of them
-pub record Writes (limit : ℕ) (past left : ℕ → Image → Type 0) (entered ended : ℕ) (before now : Option Image) (flushes : List Flushed) (event : Event) (from on : StoreState) : Type 0 where
+abbrev pub event_call : ℕ → ℕ → Image → Image → List Flushed → Event → Call
+event_call entered ended contents after flushes event = events_call entered ended contents after flushes (event ∷ [])
+
+-- all these events are in each image, and the disk tells one of them
+pub record WritesAll (limit : ℕ) (past left : ℕ → Image → Type 0) (entered ended : ℕ) (before now : Option Image) (flushes : List Flushed) (events : List Event) (from on : StoreState) : Type 0 where
   pub contents : Image
   pub was : before ≡ Some contents
   pub after : Image
   pub told : now ≡ Some after
-  pub whole : IsWhole limit first_rules past left (event_call entered ended contents after flushes event) from on
+  pub whole : IsWhole limit first_rules past left (events_call entered ended contents after flushes events) from on
+
+-- a first part of these events may be in an image
+pub record WritesSome (limit : ℕ) (past left : ℕ → Image → Type 0) (entered ended : ℕ) (before now : Option Image) (flushes : List Flushed) (events : List Event) (from : StoreState) : Type 0 where
+  pub contents : Image
+  pub was : before ≡ Some contents
+  pub after : Image
+  pub told : now ≡ Some after
+  pub meets : IsCall limit first_rules past left (events_call entered ended contents after flushes events) from
+
+-- the event is in each image
+abbrev pub Writes : ℕ → (ℕ → Image → Type 0) → (ℕ → Image → Type 0) → ℕ → ℕ → Option Image → Option Image → List Flushed → Event → StoreState → StoreState → Type 0
+Writes limit past left entered ended before now flushes event from on = WritesAll limit past left entered ended before now flushes (event ∷ []) from on
 
 -- the event may be in an image or not
-pub record WritesPart (limit : ℕ) (past left : ℕ → Image → Type 0) (entered ended : ℕ) (before now : Option Image) (flushes : List Flushed) (event : Event) (from : StoreState) : Type 0 where
-  pub contents : Image
-  pub was : before ≡ Some contents
-  pub after : Image
-  pub told : now ≡ Some after
-  pub meets : IsCall limit first_rules past left (event_call entered ended contents after flushes event) from
+abbrev pub WritesPart : ℕ → (ℕ → Image → Type 0) → (ℕ → Image → Type 0) → ℕ → ℕ → Option Image → Option Image → List Flushed → Event → StoreState → Type 0
+WritesPart limit past left entered ended before now flushes event from = WritesSome limit past left entered ended before now flushes (event ∷ []) from
 
 -- ---- the store with a piece more
 
@@ -49,6 +61,16 @@ with_stored body store = record store { bodies = store.bodies ++ body ∷ [] }
 -- rows and a marker `At` a tip
 abbrev pub flushed_to : Hash32 → List Row → StoreState → StoreState
 flushed_to tip rows store = record store { active = record store.active { marker = At tip; coins = coins_after_rows store.active.coins rows } }
+
+-- ---- why headers may not be stored
+
+-- `Full` where a payload of some of them would let their file grow beyond its limit
+abbrev pub HeadersCause : OpenLog → ℕ → ℕ → StoreFault → Type 0
+HeadersCause log before now NoMemory = ⊤
+HeadersCause log before now DiskFailed = Rose before now
+HeadersCause log before now (Full file) = (file ≡ log.file) × ((count : ℕ) × (1 ≤ count) × (count ≤ 1000) × IsOver log (5 + 80 * count))
+HeadersCause log before now (Damaged file at) = ⊥
+HeadersCause log before now CacheFull = ⊥
 
 -- ---- why a flush may not be made
 

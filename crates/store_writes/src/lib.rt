@@ -6,5 +6,5 @@ mod headers;
 mod rows;
 
 pub use bodies::store_body;
-pub use headers::store_headers;
+pub use headers::{store_all_headers, store_headers};
 pub use rows::store_coins;

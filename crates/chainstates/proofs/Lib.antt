@@ -1,0 +1,12 @@
+mod BatchSteps
+mod BodySteps
+mod Breaks
+mod Closings
+mod Entries
+mod Gates
+mod Leaving
+mod OpenCoins
+mod Opened
+mod ReachSteps
+mod TreeSteps
+mod WholeReads

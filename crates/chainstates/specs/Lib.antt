@@ -1,0 +1,4 @@
+pub mod Closing
+pub mod Opening
+pub mod Reading
+pub mod Standing

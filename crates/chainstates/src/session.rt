@@ -1,0 +1,86 @@
+//! An open store.
+
+ghost use Rattle.std.specs.Prelude.{◌≡◌, ◌≤◌, ◌^◌, ℕ, List, true, Some, IfOk, IfErr, OnErr};
+ghost use Rattle.std.specs.FinMap as finite;
+ghost use Rattle.chain_model.specs.Tree.{height as height_of};
+ghost use Rattle.chainstates.specs.Opening.{BreaksIn, OpenFault};
+ghost use Rattle.chainstates.specs.Standing.{OpensSession, IsSetTo};
+ghost use Rattle.machine.specs.Calls.{FailsToOpen};
+ghost use Rattle.store_state.specs.State.{first_rules};
+
+use crate::checks::tip_of;
+use crate::opening::{open_files, read_files};
+use base_types::{Hash32, Limits, Salt, StoreFault};
+use block_store::BlockStore;
+use coin_store::CoinStore;
+use coin_views::Layers;
+use disk_model::Disk;
+use header_tree::Tree;
+use std::alloc::Global;
+
+/// A store that is open: the tree of its headers, its files, and the coins at the tip as a cache over those of its rows.
+#[derive(Drop)]
+pub struct Session {
+    tree: Tree,
+    blocks: BlockStore,
+    coins: CoinStore,
+    layers: Layers,
+    tip: Hash32,
+}
+
+/// What is told of an open store: the number of its headers, the height of its tip, and the tip.
+#[derive(Clone, Copy, Debug, PartialEq, Eq)]
+pub struct Info {
+    pub headers: u32,
+    pub height: u32,
+    pub tip: Hash32,
+}
+
+impl Session {
+    /// Opens the files of headers, of bodies and of coins, before anything else, and reads what they stand for. The machine
+    /// begins with that, and a crash leaves what it might have left before. `Damaged` names a record that is broken.
+    pub fn open<D: Disk>(
+        alloc: Global,
+        disk: &mut D,
+        limits: &Limits,
+        salt: &Salt,
+    ) -> Result<Session, StoreFault>
+        requires { limits.now.file_bytes ≤ 2 ^ 63 }
+        ensures ok { (contents : ℕ → List ℕ) → D.contents disk.old ≡ Some contents
+            → IfOk result (OpensSession limits.now.headers (D.left_since disk.old) (D.left_since disk.new) (D.time disk.old) (D.time disk.new) contents (D.contents disk.new)) }
+        ensures err { (contents : ℕ → List ℕ) → D.contents disk.old ≡ Some contents
+            → OnErr result (FailsToOpen limits.now.headers first_rules (D.left_since disk.old) (D.left_since disk.new) (D.time disk.old) (D.time disk.new)) }
+        ensures damaged { (contents : ℕ → List ℕ) → D.contents disk.old ≡ Some contents → IfErr result (BreaksIn limits.now.headers contents) }
+        ensures set { IfOk result (IsSetTo limits.now salt.now) }
+        ensures cause { IfErr result (OpenFault (D.faults disk.old) (D.faults disk.new)) }
+        ensures faults { D.faults disk.old ≤ D.faults disk.new }
+    {
+        let (blocks, coins) = match open_files(alloc, disk, limits, salt) {
+            Ok(files) => files,
+            Err(fault) => return Err(fault),
+        };
+        match read_files(alloc, disk, limits, &blocks, &coins) {
+            Ok(tree) => Ok(Session {
+                tip: tip_of(&coins.marker()),
+                tree,
+                blocks,
+                coins,
+                layers: Layers::new(alloc, salt),
+            }),
+            Err(fault) => Err(fault),
+        }
+    }
+
+    /// What is told of it. It takes no memory.
+    pub fn info(&self) -> Info
+        ensures headers { result.headers ≡ finite.len self.now.tree.tree.headers }
+        ensures height { finite.contains_key self.now.tree.tree.headers self.now.tip ≡ true → result.height ≡ height_of self.now.tree.tree.headers self.now.tip }
+        ensures tip { result.tip ≡ self.now.tip }
+    {
+        Info {
+            headers: self.tree.size(),
+            height: self.tree.height(&self.tip).unwrap_or(0),
+            tip: self.tip,
+        }
+    }
+}

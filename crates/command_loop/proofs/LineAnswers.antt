@@ -2,6 +2,7 @@
 use Rattle.std.proofs.Common.{◌≡◌, ◌≤◌, arith, ℕ, List, [], ◌∷◌, ◌++◌, length, map, take, drop, refl, sym, ap, subst, ◌∙◌, inr}
 use Rattle.std.specs.Prelude.{⊤, Option, Some, None, Result, Ok, Err, OnOk, OnErr, IfErr}
 use Rattle.std.specs.Io.KnownBytes.{Appends}
+use Rattle.std.proofs.Math.Seq.{take-append_seam, drop-append_seam}
 use Rattle.disk_model.specs.Disk.{Image}
 use Rattle.base_types.specs.declared.flushes.Flushed.{Flushed}
 use Rattle.io_traits.specs.Host.{Held}
@@ -11,13 +12,14 @@ use Rattle.machine.specs.State.{Setting, State}
 use Rattle.machine.specs.Steps.{Now, Did, Step, at_end}
 use Rattle.machine.specs.Answers.{file_begun}
 use Rattle.machine.specs.Calls.{IsOpen}
-use Rattle.machine.specs.Work.{Moment, IsMoment}
+use Rattle.machine.specs.Work.{AddsFlushes, Moment, IsMoment}
 use Rattle.command_loop.specs.Points.{Standing, Outer, Point, now_of, IsOuter, IsOpenAt, At}
 use Rattle.command_loop.specs.ServerCalls.{Asked, WorkServed, WorkStopped, LineDoes, EndDoes}
 use Rattle.command_loop.specs.Telling.{told_now}
 use Rattle.command_loop.specs.Service.{DoesAsks, DoneAll, CutShort, Serves, Answers, AnswersEnd, AnswersLast}
 use Rattle.command_loop.specs.declared.stop.Stop.{Stop}
 use Rattle.command_loop.specs.declared.stop.Stop.TheVariants.{OutFault}
+use Rattle.command_loop.proofs.Told.{order_told}
 use Rattle.command_loop.proofs.Serving.{DoneAll-then, CutShort-then, work_done, served_output, served_members, served_point, work_unwritten, cut_output, cut_members, cut_outer, work_stopped, stopped_members, stopped_outer, line_cut, line_stopped, Serves-none}
 
 -- what became of the writing of lines
@@ -26,6 +28,20 @@ WritesLines result before after lines fb fa fc =
     OnOk result ((fc ≡ take (length fb) fa ++ map told_now (drop (length fb) fa)) × Appends before after lines)
     × OnErr result ((fc ≡ fa) × AppendsPart before after lines)
     × IfErr result (λ stop. stop ≡ OutFault)
+
+-- what was added stays added, whether the lines were written or not
+pub adds_written : (result : Result ⊤ Stop) (before after : Option (List ℕ)) (lines : List ℕ) (a b : ℕ) (fb fa fc : List Flushed) → AddsFlushes a b fb fa → WritesLines result before after lines fb fa fc → AddsFlushes a b fb fc
+adds_written (Ok done) before after lines a b fb fa fc adds writes = record {
+  later = adds.later;
+  flushes = map told_now adds.flushes;
+  added =
+      writes.0.0
+      ∙ ap (λ (l : List Flushed). take (length fb) l ++ map told_now (drop (length fb) l)) adds.added
+      ∙ ap (λ (l : List Flushed). l ++ map told_now (drop (length fb) (fb ++ adds.flushes))) (take-append_seam fb adds.flushes)
+      ∙ ap (λ (l : List Flushed). fb ++ map told_now l) (drop-append_seam fb adds.flushes);
+  in_order = order_told a b adds.flushes adds.in_order;
+}
+adds_written (Err stop) before after lines a b fb fa fc adds writes = record { later = adds.later; flushes = adds.flushes; added = writes.1.0 ∙ adds.added; in_order = adds.in_order }
 
 module _ (setting : Setting) (past left : ℕ → Image → Type 0) (p : Point) (stands : Standing) (time : ℕ) (contents : Option Image) (held : Option Held) (faults : ℕ)
     (fb fa fc : List Flushed) (lines : List ℕ) (before after : Option (List ℕ)) (same : p.outer.flushes ≡ fb) (had : before ≡ Some p.outer.written) where
@@ -50,6 +66,7 @@ module _ (setting : Setting) (past left : ℕ → Image → Type 0) (p : Point) 
           members = served_members setting past left p LineWork IsNow fb fa lines same w fc writes.0.0;
         };
         is_open = w.now.is_open;
+        settled = w.now.settled;
         stood = w.now.stood;
       },
       record { dids = w.did ∷ []; does = (w.does, λ i. record { state = w.did.now.state; files = w.work.files i }); all = work_done setting past left p LineWork IsNow fb fa lines same w },
@@ -198,7 +215,7 @@ module _ {D : Type 0} (time : D → ℕ) (contents : D → Option Image) (left :
 -- what a call of a server is told
 pub store_at : (setting : Setting) (stands : Standing) (time : ℕ) (contents : Option Image) (left : ℕ → Image → Type 0) (held : Option Held) (faults : ℕ) (written : Option (List ℕ)) (flushes : List Flushed) (p : Point)
     → At setting stands time contents left held faults written flushes p → IsOpenAt setting stands time contents left held faults p.outer.moment p.state p.store
-store_at setting stands time contents left held faults written flushes p at = record { told = at.outer.moment; is_open = at.is_open; stood = at.stood }
+store_at setting stands time contents left held faults written flushes p at = record { told = at.outer.moment; is_open = at.is_open; settled = at.settled; stood = at.stood }
 
 -- a host that isn't called holds what it held
 pub held_at : (setting : Setting) (stands : Standing) (time : ℕ) (contents : Option Image) (left : ℕ → Image → Type 0) (held : Option Held) (faults : ℕ) (written : Option (List ℕ)) (flushes : List Flushed) (p : Point)

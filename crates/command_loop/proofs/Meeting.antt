@@ -1,6 +1,7 @@
 -- A run that opens the store and then ends so meets what a run promises.
-use Rattle.std.proofs.Common.{◌≡◌, ◌⊎◌, ℕ, ◌+◌, ◌≤◌, Bool, true, false, List, [], ◌∷◌, ◌++◌, length, map, take, drop, Option, Some, refl, sym, ap, subst, ◌∙◌, arith, append_assoc, append-nil, length-append}
+use Rattle.std.proofs.Common.{◌≡◌, ◌⊎◌, ℕ, ◌+◌, ◌≤◌, Bool, true, false, List, [], ◌∷◌, ◌++◌, length, map, take, drop, Option, Some, refl, sym, ap, subst, ◌∙◌, arith, le_refl, append_assoc, append-nil, length-append}
 use Rattle.std.specs.Prelude.{unwrap_or}
+use Rattle.std.specs.List.{AllByRecursion}
 use Rattle.std.proofs.Math.Seq.{take-append_seam, drop-append_seam}
 use Rattle.std.proofs.lemmas.Bool.{false≢true}
 use Rattle.disk_model.specs.Disk.{Image}
@@ -9,9 +10,8 @@ use Rattle.base_types.specs.declared.program.Rules.{Rules}
 use Rattle.base_types.specs.declared.program.Status.{Status}
 use Rattle.base_types.specs.declared.program.Status.TheVariants as status
 use Rattle.io_traits.specs.Causes.{RoseBy}
-use Rattle.io_traits.specs.Host.{Files}
-use Rattle.store_state.specs.Roles.{full_of, snapshot_of}
-use Rattle.store_state.specs.State.{StoreState, state_of}
+use Rattle.store_state.specs.Settled.{IsSettled}
+use Rattle.store_state.specs.State.{StoreState}
 use Rattle.machine.specs.declared.report.Found.{Found}
 use Rattle.machine.specs.declared.report.Opened.{Opened}
 use Rattle.machine.specs.declared.report.Opened.TheVariants.{Not, Yes}
@@ -20,10 +20,10 @@ use Rattle.machine.specs.Steps.{Did}
 use Rattle.machine.specs.Courses.{whole, replies_of, text_of, events_of}
 use Rattle.machine.specs.Runs.{Run}
 use Rattle.machine.specs.Tips.{AllSettled, OfEach, AsAtEntry, IsAfterSome}
-use Rattle.machine.specs.Calls.{Call, FailsToOpen, IsOpening, IsOpenedRun, opened_at}
-use Rattle.machine.specs.Clauses.{IsRun, AfterOpening, InOrder}
-use Rattle.machine.specs.Answers.{IsPrefix, Answers, FoundIn, name_of, flushes_of, told_flushes, flushes_told_by, flushes_with_lines, whole_replies, comes_before, needs_opening}
-use Rattle.machine.specs.Work.{call_between}
+use Rattle.machine.specs.Calls.{Call, FailsToOpen, IsOpen, IsOpening, IsOpenedRun, opened_at}
+use Rattle.machine.specs.Clauses.{IsRun, AfterOpening, InOrder, ReadsWithin}
+use Rattle.machine.specs.Answers.{Opens, IsPrefix, Answers, FoundIn, name_of, flushes_of, told_flushes, flushes_told_by, flushes_with_lines, whole_replies, comes_before, needs_opening}
+use Rattle.machine.specs.Work.{AddsFlushes, call_between}
 use Rattle.machine.proofs.FlushLists.{prefix_more}
 use Rattle.machine.proofs.Opening.{opened_run, opened_all}
 use Rattle.command_loop.specs.Points.{Outer, Point, now_of}
@@ -150,6 +150,30 @@ module _ (setting : Setting) (past mid left : ℕ → Image → Type 0) (entered
     after_opening = λ settled store stands is_open.
         subst (λ (s : StoreState). AfterOpening setting.limit setting.given (past entered) left run_of s) (same_store from store (sym opening.stands_for ∙ stands)) (after settled);
   }
+
+-- ---- a run that opened a store, whatever is settled
+
+pub opens_run : (limit : ℕ) (given : Rules) (run : Run) (at : ℕ) (full snapshot : Option Found) → run.opened ≡ Yes at full snapshot → FoundIn limit given run.contents (Yes at full snapshot) → comes_before run.status ≡ false → Opens limit given run
+opens_run limit given run at full snapshot is found goes = record {
+  found = subst (FoundIn limit given run.contents) (sym is) found;
+  not_only = λ e. absurd (yes_not at full snapshot (sym is ∙ e));
+  not_with = λ e. absurd (false≢true (sym goes ∙ e));
+  silent = λ e. absurd (yes_not at full snapshot (sym is ∙ e));
+  idle = λ e. absurd (yes_not at full snapshot (sym is ∙ e));
+  untaken = λ e. absurd (yes_not at full snapshot (sym is ∙ e));
+  unchanged = λ e. absurd (yes_not at full snapshot (sym is ∙ e));
+}
+
+pub in_order_run : (run : Run) (at : ℕ) (full snapshot : Option Found) → run.opened ≡ Yes at full snapshot → run.entered ≤ at → AddsFlushes at run.ended [] run.flushes → InOrder run run.opened
+in_order_run run at full snapshot is early adds =
+    subst (InOrder run) (sym is) (early, adds.later, subst (λ (l : List Flushed). AllByRecursion (ReadsWithin at run.ended) l) (sym adds.added) adds.in_order)
+
+-- the store that an opening ends with is settled, if all images were
+pub opened_settled : (limit : ℕ) (given : Rules) (past mid : ℕ → Image → Type 0) (call : Call) (from on : StoreState) → IsOpening limit given past mid call from on → IsOpen limit given (mid call.ended) call.after on
+    → AllSettled limit given (past call.entered) → IsSettled on
+opened_settled limit given past mid call from on opening is_open all =
+    let known = opening.settled all call.after (opening.disk.earlier call.entered call.ended call.after opening.disk.later (le_refl call.ended) is_open.reads) in
+    subst IsSettled (same_store known.state on (sym known.stands_for ∙ is_open.all call.after is_open.reads)) known.settled
 
 -- ---- a run that opened nothing
 

@@ -52,7 +52,7 @@ reads_told low high f w = one (is_tellable f) refl
     one true e = (w.0, w.1, w.2, λ told. both_true (is_done f) (has_line f.why) e)
     one false e = w
 
-order_told : (low high : ℕ) (fs : List Flushed) → AllByRecursion (ReadsWithin low high) fs → AllByRecursion (ReadsWithin low high) (map told_now fs)
+pub order_told : (low high : ℕ) (fs : List Flushed) → AllByRecursion (ReadsWithin low high) fs → AllByRecursion (ReadsWithin low high) (map told_now fs)
 order_told low high [] all = tt
 order_told low high (f ∷ fs) all = (reads_told low high f all.0, order_told low high fs all.1)
 

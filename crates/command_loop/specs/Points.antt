@@ -3,6 +3,7 @@ use Rattle.std.specs.Prelude.{◌≡◌, ℕ, List, Option, Some}
 use Rattle.disk_model.specs.Disk.{Image}
 use Rattle.base_types.specs.declared.flushes.Flushed.{Flushed}
 use Rattle.io_traits.specs.Host.{Held}
+use Rattle.store_state.specs.Settled.{IsSettled}
 use Rattle.store_state.specs.State.{StoreState}
 use Rattle.machine.specs.Calls.{IsOpen}
 use Rattle.machine.specs.State.{Setting, State}
@@ -35,14 +36,16 @@ pub record IsOuter (time : ℕ) (contents : Option Image) (held : Option Held) (
   pub output : written ≡ Some outer.written
   pub members : outer.flushes ≡ flushes
 
--- the store is open at a moment, the machine and the store stand so, and all this is told
+-- the store is open at a moment and settled, the machine and the store stand so, and all this is told
 pub record IsOpenAt (setting : Setting) (stands : Standing) (time : ℕ) (contents : Option Image) (left : ℕ → Image → Type 0) (held : Option Held) (faults : ℕ) (moment : Moment) (state : State) (store : StoreState) : Type 0 where
   pub told : IsMoment time contents held faults moment
   pub is_open : IsOpen setting.limit setting.given (left time) moment.contents store
+  pub settled : IsSettled store
   pub stood : stands contents (left time) state store
 
 -- the same with the bytes written and the flushes
 pub record At (setting : Setting) (stands : Standing) (time : ℕ) (contents : Option Image) (left : ℕ → Image → Type 0) (held : Option Held) (faults : ℕ) (written : Option (List ℕ)) (flushes : List Flushed) (p : Point) : Type 0 where
   pub outer : IsOuter time contents held faults written flushes p.outer
   pub is_open : IsOpen setting.limit setting.given (left time) p.outer.moment.contents p.store
+  pub settled : IsSettled p.store
   pub stood : stands contents (left time) p.state p.store

@@ -18,8 +18,8 @@ use Rattle.store_state.specs.State.{StoreState}
 use Rattle.machine.specs.Answers.{found_of}
 use Rattle.machine.specs.Calls.{IsOpening, IsOpen}
 use Rattle.machine.specs.State.{Setting, State, begins}
-use Rattle.machine.specs.Steps.{Now, Did, Step, at_end}
-use Rattle.machine.specs.Work.{Moment, IsMoment, WorkDone, WorkCut}
+use Rattle.machine.specs.Steps.{Did, Step, at_end}
+use Rattle.machine.specs.Work.{Moment, WorkDone, WorkCut}
 use Rattle.command_loop.specs.declared.settings.RunSettings.{RunSettings}
 use Rattle.command_loop.specs.declared.server.FoundStore.{FoundStore}
 use Rattle.command_loop.specs.Points.{Standing}

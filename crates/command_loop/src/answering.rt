@@ -8,6 +8,7 @@ ghost use Rattle.io_traits.specs.Causes.{Rose};
 ghost use Rattle.io_traits.specs.Host.{Held};
 ghost use Rattle.io_traits.specs.Streams.{AppendsPart};
 ghost use Rattle.command_text.specs.Lines.{line_of, pieces_between};
+ghost use Rattle.machine.specs.Work.{AddsFlushes};
 ghost use Rattle.command_loop.specs.declared.stop.Stop.TheVariants.{OnStore, OutFault};
 ghost use Rattle.command_loop.specs.Asks.{ended_asks, kept_of, last_of, pieces_behind};
 ghost use Rattle.command_loop.specs.Points.{Point, IsOuter, At};
@@ -39,6 +40,7 @@ pub(crate) fn answer<S: Server, D: Disk, H: Host, O: Sink>(
     ensures disk_fault { result ≡ Err (OnStore fault.DiskFailed) → Rose (D.faults disk.old) (D.faults disk.new) }
     ensures caused { Told (D.contents disk.new) (IsCaused (S.causes (S.set_to server.old)) (status_of_end result)) }
     ensures steady { result ≢ Err OutFault → O.faults out.new ≡ O.faults out.old }
+    ensures timed { AddsFlushes (D.time disk.old) (D.time disk.new) flushes.old flushes.new }
     ensures later { (D.faults disk.old ≤ D.faults disk.new) × (H.faults host.old ≤ H.faults host.new) × (O.faults out.old ≤ O.faults out.new) }
     ensures set { S.set_to server.new ≡ S.set_to server.old }
     ensures served { (p : Point) → At (setting_of (S.set_to server.old)) (S.stands server.old) (D.time disk.old) (D.contents disk.old) (D.left_since disk.old) (H.held host.old) (H.faults host.old) (O.written out.old) flushes.old p
@@ -88,6 +90,7 @@ pub(crate) fn answer_end<S: Server, D: Disk, O: Sink>(
     ensures disk_fault { result ≡ Err (OnStore fault.DiskFailed) → Rose (D.faults disk.old) (D.faults disk.new) }
     ensures caused { Told (D.contents disk.new) (IsCaused (S.causes (S.set_to server.old)) (status_of_end result)) }
     ensures steady { result ≢ Err OutFault → O.faults out.new ≡ O.faults out.old }
+    ensures timed { AddsFlushes (D.time disk.old) (D.time disk.new) flushes.old flushes.new }
     ensures later { (D.faults disk.old ≤ D.faults disk.new) × (O.faults out.old ≤ O.faults out.new) }
     ensures served { (p : Point) (held : Held) (faults : ℕ) → At (setting_of (S.set_to server.old)) (S.stands server.old) (D.time disk.old) (D.contents disk.old) (D.left_since disk.old) (Some held) faults (O.written out.old) flushes.old p
         → AnswersEnd (setting_of (S.set_to server.old)) (D.left_since disk.old) (D.left_since disk.new) p
@@ -113,6 +116,7 @@ pub(crate) fn answer_lines<S: Server, D: Disk, H: Host, O: Sink>(
     ensures disk_fault { result ≡ Err (OnStore fault.DiskFailed) → Rose (D.faults disk.old) (D.faults disk.new) }
     ensures caused { Told (D.contents disk.new) (IsCaused (S.causes (S.set_to server.old)) (status_of_end result)) }
     ensures steady { result ≢ Err OutFault → O.faults out.new ≡ O.faults out.old }
+    ensures timed { AddsFlushes (D.time disk.old) (D.time disk.new) flushes.old flushes.new }
     ensures later { (D.faults disk.old ≤ D.faults disk.new) × (H.faults host.old ≤ H.faults host.new) × (O.faults out.old ≤ O.faults out.new) }
     ensures set { S.set_to server.new ≡ S.set_to server.old }
     ensures served { (p : Point) → At (setting_of (S.set_to server.old)) (S.stands server.old) (D.time disk.old) (D.contents disk.old) (D.left_since disk.old) (H.held host.old) (H.faults host.old) (O.written out.old) flushes.old p

@@ -10,6 +10,7 @@ ghost use Rattle.io_traits.specs.Causes.{Rose};
 ghost use Rattle.machine.specs.Answers.{comes_before};
 ghost use Rattle.machine.specs.Clauses.{IsRun};
 ghost use Rattle.machine.specs.Runs.{Run};
+ghost use Rattle.machine.specs.Work.{AddsFlushes};
 ghost use Rattle.machine.specs.declared.report.Opened.TheVariants.{Not};
 ghost use Rattle.command_loop.specs.declared.stop.Stop.TheVariants.{OnStore, OutFault};
 ghost use Rattle.command_loop.specs.Ending.{AnswersInput};
@@ -125,6 +126,7 @@ fn answer_input<S: Server, D: Disk, H: Host, I: Source, O: Sink>(
     ensures too_long { result ≡ status.TooLong → IfSome (I.left input.old) (λ bytes. 16777216 < length bytes) }
     ensures taken { result ≡ status.Done → IfSome (I.left input.old) (λ bytes. length bytes ≤ 16777216) }
     ensures ended { result ≡ status.Done → IsAtEnd (I.left input.new) }
+    ensures timed { AddsFlushes (D.time disk.old) (D.time disk.new) flushes.old flushes.new }
     ensures steady_in { result ≢ status.InFault → I.faults input.new ≡ I.faults input.old }
     ensures steady_out { result ≢ status.OutFault → O.faults out.new ≡ O.faults out.old }
     ensures later { (D.faults disk.old ≤ D.faults disk.new) × (H.faults host.old ≤ H.faults host.new) × (I.faults input.old ≤ I.faults input.new) × (O.faults out.old ≤ O.faults out.new) }
@@ -171,6 +173,7 @@ fn answer_last<S: Server, D: Disk, H: Host, O: Sink>(
     ensures out_fault { result ≡ Err OutFault → Rose (O.faults out.old) (O.faults out.new) }
     ensures disk_fault { result ≡ Err (OnStore fault.DiskFailed) → Rose (D.faults disk.old) (D.faults disk.new) }
     ensures caused { Told (D.contents disk.new) (IsCaused (S.causes (S.set_to server.old)) (status_of_end result)) }
+    ensures timed { AddsFlushes (D.time disk.old) (D.time disk.new) flushes.old flushes.new }
     ensures steady { result ≢ Err OutFault → O.faults out.new ≡ O.faults out.old }
     ensures later { (D.faults disk.old ≤ D.faults disk.new) × (H.faults host.old ≤ H.faults host.new) × (O.faults out.old ≤ O.faults out.new) }
     ensures served { (p : Point) → At (setting_of (S.set_to server.old)) (S.stands server.old) (D.time disk.old) (D.contents disk.old) (D.left_since disk.old) (H.held host.old) (H.faults host.old) (O.written out.old) flushes.old p

@@ -11,7 +11,7 @@ ghost use Rattle.store_state.specs.State.{StoreState};
 ghost use Rattle.machine.specs.Answers.{file_begun};
 ghost use Rattle.machine.specs.Calls.{FailsToOpen};
 ghost use Rattle.machine.specs.State.{State};
-ghost use Rattle.machine.specs.Work.{Moment, IsMoment};
+ghost use Rattle.machine.specs.Work.{AddsFlushes, Moment, IsMoment};
 ghost use Rattle.command_loop.specs.Points.{IsOpenAt};
 ghost use Rattle.command_loop.specs.ServerCalls.{setting_of, AreInRange, OpensStore, status_of_fault, IsCaused, IsDamage, WorkServed, WorkStopped, LineDoes, EndDoes};
 ghost use Rattle.command_loop.specs.declared.settings.RunSettings.{RunSettings as SettingsOfRun};
@@ -30,7 +30,9 @@ pub struct FoundStore {
     pub snapshot: Option<Found>,
 }
 
-/// A store that can be opened, and that serves lines. The clauses speak of a disk and a host that tell what they hold.
+/// A store that can be opened, and that serves lines. The clauses speak of a disk and a host that tell what they hold, and those
+/// of work of a store that is settled, which none is that wasn't so before; but for the readings of the clock, which are in
+/// order in any case.
 ///
 /// An Ok leaves the work done, in every image that a crash may leave, and the store open. After an error any first part of the
 /// work may be done, and the store is used no more.
@@ -79,6 +81,7 @@ pub trait Server: Drop {
             → IsOpenAt (setting_of (set_to self.old)) (stands self.old) (D.time disk.old) (D.contents disk.old) (D.left_since disk.old) (H.held host.old) (H.faults host.old) before state from
             → OnErr result (WorkStopped (setting_of (set_to self.old)) (D.left_since disk.old) (D.left_since disk.new) before from (LineDoes (setting_of (set_to self.old)) before state (line_of text.now))
             (IsMoment (D.time disk.new) (D.contents disk.new) (H.held host.new) (H.faults host.new)) (file_begun (line_of text.now)) flushes.old flushes.new) }
+        ensures timed { AddsFlushes (D.time disk.old) (D.time disk.new) flushes.old flushes.new }
         ensures set { set_to self.new ≡ set_to self.old }
         ensures caused { Told (D.contents disk.new) (λ contents. IfErr result (λ fault. IsCaused (causes (set_to self.old)) (status_of_fault fault) contents)) }
         ensures failed { IfErr result (λ fault. fault ≡ DiskFailed → Rose (D.faults disk.old) (D.faults disk.new)) }
@@ -100,6 +103,7 @@ pub trait Server: Drop {
             → IsOpenAt (setting_of (set_to self.old)) (stands self.old) (D.time disk.old) (D.contents disk.old) (D.left_since disk.old) (Some held) faults before state from
             → OnErr result (WorkStopped (setting_of (set_to self.old)) (D.left_since disk.old) (D.left_since disk.new) before from (EndDoes before state)
             (IsMoment (D.time disk.new) (D.contents disk.new) (Some held) faults) None flushes.old flushes.new) }
+        ensures timed { AddsFlushes (D.time disk.old) (D.time disk.new) flushes.old flushes.new }
         ensures caused { Told (D.contents disk.new) (λ contents. IfErr result (λ fault. IsCaused (causes (set_to self.old)) (status_of_fault fault) contents)) }
         ensures failed { IfErr result (λ fault. fault ≡ DiskFailed → Rose (D.faults disk.old) (D.faults disk.new)) }
         ensures later { D.faults disk.old ≤ D.faults disk.new };

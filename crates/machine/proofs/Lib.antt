@@ -1,3 +1,4 @@
+pub mod Adding
 pub mod Appending
 mod BlockHistory
 pub mod Early

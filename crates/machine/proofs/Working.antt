@@ -4,7 +4,6 @@ use Rattle.std.specs.Prelude.{Option}
 use Rattle.std.proofs.lemmas.List.{map-append}
 use Rattle.disk_model.specs.Disk.{Image}
 use Rattle.base_types.specs.declared.flushes.Flushed.{Flushed}
-use Rattle.command_text.specs.declared.reply.Reply.{Reply}
 use Rattle.io_traits.specs.Causes.{RoseBy}
 use Rattle.io_traits.specs.Host.{Files}
 use Rattle.io_traits.proofs.Causes.{RoseBy-then}
@@ -16,7 +15,7 @@ use Rattle.machine.specs.Answers.{IsPrefix, FlushName, SameBut, name_of, flushes
 use Rattle.machine.specs.Work.{Moment, WorkDone, WorkCut, call_between}
 use Rattle.machine.proofs.FlushLists.{prefix_all, prefix_more, prefix_behind, flushes_of-append, told_by-append, with_lines-append, done-append, done_but_last, unfinished-append}
 use Rattle.machine.proofs.Joining.{all-append, nothing_done, whole_then, whole_both}
-use Rattle.machine.proofs.LineFiles.{same_but, same_but_then}
+use Rattle.machine.proofs.LineFiles.{same_but_then}
 use Rattle.machine.proofs.Telling.{more_events}
 
 -- ---- none

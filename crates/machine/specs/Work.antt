@@ -1,5 +1,5 @@
 -- A piece of work on an open store: done whole, or cut by a fault.
-use Rattle.std.specs.Prelude.{◌≡◌, ℕ, false, List, map, Option, Some}
+use Rattle.std.specs.Prelude.{◌≡◌, ◌≤◌, ℕ, false, List, ◌++◌, map, Option, Some}
 use Rattle.std.specs.List.{AllByRecursion}
 use Rattle.disk_model.specs.Disk.{Image}
 use Rattle.base_types.specs.declared.flushes.Flushed.{Flushed}
@@ -9,6 +9,7 @@ use Rattle.store_state.specs.State.{StoreState}
 use Rattle.machine.specs.State.{Setting, Event}
 use Rattle.machine.specs.Steps.{Did}
 use Rattle.machine.specs.Calls.{Call, IsCall, IsWhole}
+use Rattle.machine.specs.Clauses.{ReadsWithin}
 use Rattle.machine.specs.Answers.{IsPrefix, SameBut, AllDone, AllDoneButLast, name_of, flushes_of, flushes_told_by, flushes_with_lines}
 
 -- the reading of the disk's clock and its contents, and the host's files and count of faults
@@ -60,3 +61,11 @@ pub record WorkCut (setting : Setting) (past left : ℕ → Image → Type 0) (b
   pub unfinished : AllDoneButLast flushes
   pub untold : AllUntold flushes
   pub host : RoseBy did.faults before.faults after.faults
+
+-- The clock went on, and these flushes were added to those of a run, with readings of that time in their order. It is so of any
+-- store, settled or not.
+pub record AddsFlushes (entered ended : ℕ) (before after : List Flushed) : Type 0 where
+  pub later : entered ≤ ended
+  pub flushes : List Flushed
+  pub added : after ≡ before ++ flushes
+  pub in_order : AllByRecursion (ReadsWithin entered ended) flushes

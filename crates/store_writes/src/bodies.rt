@@ -40,6 +40,7 @@ pub fn store_body<D: Disk>(
         → OnErr result (WritesPart limit (D.left_since disk.old) (D.left_since disk.new) (D.time disk.old) (D.time disk.new) (D.contents disk.old) (D.contents disk.new) [] (BodyStored hash.now block.now) store) }
     ensures same { OnErr result (SameStore blocks.old blocks.new) }
     ensures cause { IfErr result (AppendCause blocks.old.bodies (length (body_text hash.now block.now)) (D.faults disk.old) (D.faults disk.new)) }
+    ensures later { D.time disk.old ≤ D.time disk.new }
     ensures faults { D.faults disk.old ≤ D.faults disk.new }
     ensures read { D.bytes_read disk.new ≡ D.bytes_read disk.old }
 {

@@ -35,6 +35,7 @@ pub fn store_headers<D: Disk>(
         → OnErr result (WritesPart limit (D.left_since disk.old) (D.left_since disk.new) (D.time disk.old) (D.time disk.new) (D.contents disk.old) (D.contents disk.new) [] (HeadersStored headers.now) store) }
     ensures same { OnErr result (SameStore blocks.old blocks.new) }
     ensures cause { IfErr result (AppendCause blocks.old.headers (80 * length headers.now) (D.faults disk.old) (D.faults disk.new)) }
+    ensures later { D.time disk.old ≤ D.time disk.new }
     ensures faults { D.faults disk.old ≤ D.faults disk.new }
     ensures read { D.bytes_read disk.new ≡ D.bytes_read disk.old }
 {
@@ -60,6 +61,7 @@ pub fn store_all_headers<D: Disk>(
         → OnDisk limit (D.contents disk.old) (D.left_since disk.old (D.time disk.old)) blocks.old coins store → tree_with limit store.tree headers.now ≡ Some tree
         → OnErr result (WritesSome limit (D.left_since disk.old) (D.left_since disk.new) (D.time disk.old) (D.time disk.new) (D.contents disk.old) (D.contents disk.new) [] (header_events headers.now) store) }
     ensures cause { IfErr result (HeadersCause blocks.new.headers (D.faults disk.old) (D.faults disk.new)) }
+    ensures later { D.time disk.old ≤ D.time disk.new }
     ensures faults { D.faults disk.old ≤ D.faults disk.new }
     ensures read { D.bytes_read disk.new ≡ D.bytes_read disk.old }
 {

@@ -12,6 +12,7 @@ ghost use Rattle.coin_store.specs.Places.{coins_after_rows};
 ghost use Rattle.coin_store.specs.Staging.{IsStaged, IsReady};
 ghost use Rattle.coin_store.specs.declared.marker.Marker.TheVariants.{At};
 ghost use Rattle.machine.specs.State.{Flush};
+ghost use Rattle.machine.specs.Work.{AddsFlushes};
 ghost use Rattle.store_state.specs.State.{StoreState, choice_of};
 ghost use Rattle.store_writes.specs.OnDisk.{OnDisk};
 ghost use Rattle.store_writes.specs.Written.{Writes, WritesPart, FlushCause, flushed_to};
@@ -43,6 +44,7 @@ pub fn store_coins<D: Disk>(
         → OnErr result ((added : List Flushed) × (flushes.new ≡ flushes.old ++ added) × ((added ≡ []) ⊎ (added ≡ begun_flush Full tip.now why (D.time disk.old) ∷ []))
         × WritesPart limit (D.left_since disk.old) (D.left_since disk.new) (D.time disk.old) (D.time disk.new) (D.contents disk.old) (D.contents disk.new) added (Flush Full tip.now why touched) store) }
     ensures cause { IfErr result (FlushCause (D.faults disk.old) (D.faults disk.new)) }
+    ensures timed { AddsFlushes (D.time disk.old) (D.time disk.new) flushes.old flushes.new }
     ensures faults { D.faults disk.old ≤ D.faults disk.new }
     ensures read { D.bytes_read disk.new ≡ D.bytes_read disk.old }
 {

@@ -1,4 +1,4 @@
-use Rattle.std.proofs.Common.{◌≡◌, ℕ, List, [], ◌∷◌, ◌++◌, take, drop, map, length, sym, ap, subst}
+use Rattle.std.proofs.Common.{◌≡◌, ℕ, List, [], ◌++◌, take, drop, map, length, sym, ap, subst}
 use Rattle.std.specs.Prelude.{OnOk}
 use Rattle.std.specs.Io.KnownBytes.{Appends}
 use Rattle.std.proofs.lemmas.Result.{err_from_is_err_and}
@@ -9,7 +9,7 @@ use Rattle.machine.specs.Work.{Moment}
 use Rattle.command_loop.specs.Points.{Point, IsOpenAt}
 use Rattle.command_loop.specs.ServerCalls.{setting_of, WorkServed, LineDoes}
 use Rattle.command_loop.specs.Telling.{told_now}
-use Rattle.command_loop.proofs.LineAnswers.{WritesLines, store_at, line_written, line_failed}
+use Rattle.command_loop.proofs.LineAnswers.{adds_written, WritesLines, store_at, line_written, line_failed}
 use Rattle.command_loop.proofs.answering.answer.Goals as goal
 
 pub returns-in_err-serve-clause-served : goal.returns-in_err-serve-clause-served
@@ -48,3 +48,17 @@ returns-clause-served g c = λ p at.
     let result = c.write_lines.result in
     let writes : WritesLines result before after lines fb fa fc = (subst (λ (n : ℕ). OnOk result ((fc ≡ take n fa ++ map told_now (drop n fa)) × Appends before after lines)) from said.ok, said.err, said.only) in
     line_written setting past left p stands (g.D.Disk.time disk) (g.D.Disk.contents disk) held faults fb fa fc lines before after at.outer.members at.outer.output ask w result writes
+
+pub returns-clause-timed : goal.returns-clause-timed
+returns-clause-timed g c =
+    let fb = c.args.flushes.now in
+    let fa = c.serve.new.flushes in
+    let fc = c.write_lines.new.flushes in
+    let lines = c.deref.result.now in
+    let before = g.O.Sink.written c.args.out.now in
+    let after = g.O.Sink.written c.write_lines.new.out in
+    let said = c.write_lines.ensures in
+    let result = c.write_lines.result in
+    let from : length c.as_slice-from.result.now ≡ length fb = ap length c.as_slice-from.ensures in
+    let writes : WritesLines result before after lines fb fa fc = (subst (λ (n : ℕ). OnOk result ((fc ≡ take n fa ++ map told_now (drop n fa)) × Appends before after lines)) from said.ok, said.err, said.only) in
+    adds_written result before after lines (g.D.Disk.time c.args.disk.now) (g.D.Disk.time c.serve.new.disk) fb fa fc c.serve.ensures.timed writes

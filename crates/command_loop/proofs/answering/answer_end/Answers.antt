@@ -8,7 +8,7 @@ use Rattle.machine.specs.Work.{Moment}
 use Rattle.command_loop.specs.Points.{IsOpenAt}
 use Rattle.command_loop.specs.ServerCalls.{setting_of, WorkServed, EndDoes}
 use Rattle.command_loop.specs.Telling.{told_now}
-use Rattle.command_loop.proofs.LineAnswers.{WritesLines, store_at, end_written, end_failed}
+use Rattle.command_loop.proofs.LineAnswers.{adds_written, WritesLines, store_at, end_written, end_failed}
 use Rattle.command_loop.proofs.answering.answer_end.Goals as goal
 
 pub returns-in_err-finish-clause-served : goal.returns-in_err-finish-clause-served
@@ -44,3 +44,17 @@ returns-clause-served g c = λ p held faults at.
     let result = c.write_lines.result in
     let writes : WritesLines result before after lines fb fa fc = (subst (λ (n : ℕ). OnOk result ((fc ≡ take n fa ++ map told_now (drop n fa)) × Appends before after lines)) from said.ok, said.err, said.only) in
     end_written setting past left p stands (g.D.Disk.time disk) (g.D.Disk.contents disk) (Some held) faults fb fa fc lines before after at.outer.members at.outer.output w result writes
+
+pub returns-clause-timed : goal.returns-clause-timed
+returns-clause-timed g c =
+    let fb = c.args.flushes.now in
+    let fa = c.finish.new.flushes in
+    let fc = c.write_lines.new.flushes in
+    let lines = c.deref.result.now in
+    let before = g.O.Sink.written c.args.out.now in
+    let after = g.O.Sink.written c.write_lines.new.out in
+    let said = c.write_lines.ensures in
+    let result = c.write_lines.result in
+    let from : length c.as_slice-from.result.now ≡ length fb = ap length c.as_slice-from.ensures in
+    let writes : WritesLines result before after lines fb fa fc = (subst (λ (n : ℕ). OnOk result ((fc ≡ take n fa ++ map told_now (drop n fa)) × Appends before after lines)) from said.ok, said.err, said.only) in
+    adds_written result before after lines (g.D.Disk.time c.args.disk.now) (g.D.Disk.time c.finish.new.disk) fb fa fc c.finish.ensures.timed writes

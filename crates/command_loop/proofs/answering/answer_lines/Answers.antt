@@ -1,10 +1,11 @@
 use Rattle.std.proofs.Common.{◌≡◌, ◌∷◌, ◌++◌, [], List, ℕ, ap, sym, subst, ◌∙◌, arith, refl}
 use Rattle.std.proofs.lemmas.Result.{err_from_is_err_and}
 use Rattle.command_text.specs.Lines.{line_of, without_return}
+use Rattle.machine.proofs.Adding.{adds_none, adds_then}
 use Rattle.command_loop.specs.Asks.{asked, kept_of, last_of, pieces_behind}
-use Rattle.command_loop.specs.Points.{Outer, Point, IsOuter, At}
+use Rattle.command_loop.specs.Points.{Point, At}
 use Rattle.command_loop.specs.ServerCalls.{Asked, setting_of}
-use Rattle.command_loop.specs.Service.{Serves, Stopped, Answers}
+use Rattle.command_loop.specs.Service.{Serves, Stopped}
 use Rattle.command_loop.specs.declared.settings.RunSettings.{RunSettings}
 use Rattle.command_loop.specs.declared.stop.Stop.{Stop}
 use Rattle.command_loop.specs.declared.stop.Stop.TheVariants.{OutFault}
@@ -18,6 +19,7 @@ loop-front-init g c = record {
       (nothing_served g.D.Disk.time g.D.Disk.contents g.D.Disk.left_since g.met.D.Disk.since_earlier c.args.disk.now (setting_of (g.S.Server.set_to c.args.server.now)) (g.S.Server.stands c.args.server.now) (g.H.Host.held c.args.host.now) (g.H.Host.faults c.args.host.now) (g.O.Sink.written c.args.out.now) c.args.flushes.now p at);
   last_kept = refl;
   set = refl;
+  timed = adds_none (g.D.Disk.time c.args.disk.now) c.args.flushes.now;
   disk_later = omega arith;
   host_later = omega arith;
   steady = refl;
@@ -87,6 +89,7 @@ loop-front-preserved g c =
           (IsDone-more setting past mid left c.args.line.now c.args.bytes.now at.line at.rest.now front behind p _ c.in-Some.ensures.0 done IsNow said.0 then_at served);
       last_kept = at.invariant.last_kept ∙ ap kept_of (last_feed at.line at.rest.now front behind c.in-Some.ensures.0) ∙ ap (λ (l : List ℕ). kept_of (last_of (pieces_behind l behind))) (sym c.clear.ensures);
       set = c.in_ok-answer.ensures.set ∙ at.invariant.set;
+      timed = adds_then (g.D.Disk.time c.args.disk.now) (g.D.Disk.time at.disk) (g.D.Disk.time c.answer.new.disk) c.args.flushes.now at.flushes c.answer.new.flushes at.invariant.timed c.in_ok-answer.ensures.timed;
       disk_later = let x = at.invariant.disk_later in let y = c.in_ok-answer.ensures.later.0 in omega (arith, x, y);
       host_later = let x = at.invariant.host_later in let y = c.in_ok-answer.ensures.later.1 in omega (arith, x, y);
       steady = c.in_ok-answer.ensures.steady (λ is. cc) ∙ at.invariant.steady;
@@ -105,3 +108,8 @@ returns-clause-kept g c =
     let at = c.loop-front in
     let whole = rw c.in_default.is at c.cut.ensures in
     c.in_ok-push-2.ensures ∙ kept_end c.args.line.now c.args.bytes.now at.line at.rest.now at.invariant.last_kept whole
+
+pub returns-in_err-answer-clause-timed : goal.returns-in_err-answer-clause-timed
+returns-in_err-answer-clause-timed g c =
+    let at = c.loop-front in
+    adds_then (g.D.Disk.time c.args.disk.now) (g.D.Disk.time at.disk) (g.D.Disk.time c.answer.new.disk) c.args.flushes.now at.flushes c.answer.new.flushes at.invariant.timed c.answer.ensures.timed

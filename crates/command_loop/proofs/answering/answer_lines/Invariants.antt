@@ -1,4 +1,5 @@
 use Rattle.std.proofs.Common.{◌≡◌, ◌≤◌, length}
+use Rattle.machine.specs.Work.{AddsFlushes}
 use Rattle.command_loop.specs.Asks.{kept_of, last_of, pieces_behind}
 use Rattle.command_loop.specs.Points.{Point, At}
 use Rattle.command_loop.specs.ServerCalls.{setting_of}
@@ -12,6 +13,7 @@ invariant-loop-front g l = record {
       (At (setting_of (g.S.Server.set_to l.fn.server)) (g.S.Server.stands l.server) (g.D.Disk.time l.disk) (g.D.Disk.contents l.disk) (g.D.Disk.left_since l.disk) (g.H.Host.held l.host) (g.H.Host.faults l.host) (g.O.Sink.written l.out) l.flushes);
   last_kept : kept_of (last_of (pieces_behind l.fn.line l.fn.bytes)) ≡ kept_of (last_of (pieces_behind l.line l.rest));
   set : g.S.Server.set_to l.server ≡ g.S.Server.set_to l.fn.server;
+  timed : AddsFlushes (g.D.Disk.time l.fn.disk) (g.D.Disk.time l.disk) l.fn.flushes l.flushes;
   disk_later : g.D.Disk.faults l.fn.disk ≤ g.D.Disk.faults l.disk;
   host_later : g.H.Host.faults l.fn.host ≤ g.H.Host.faults l.host;
   steady : g.O.Sink.faults l.out ≡ g.O.Sink.faults l.fn.out;

@@ -6,6 +6,7 @@ use Rattle.base_types.specs.declared.program.Status.{Status}
 use Rattle.base_types.specs.declared.program.Status.TheVariants as status
 use Rattle.command_text.specs.Lines.{line_of}
 use Rattle.machine.specs.Answers.{comes_before}
+use Rattle.machine.proofs.Adding.{adds_none, adds_then}
 use Rattle.command_loop.specs.Asks.{ended_asks}
 use Rattle.command_loop.specs.Ending.{AnswersInput}
 use Rattle.command_loop.specs.Points.{Outer, Point, IsOuter, At}
@@ -34,6 +35,7 @@ reading-init g c = record {
   within = omega arith;
   room = c.in-Ok.ensures;
   set = refl;
+  timed = adds_none (g.D.Disk.time c.args.disk.now) c.args.flushes.now;
   disk_later = omega arith;
   host_later = omega arith;
   in_steady = refl;
@@ -150,6 +152,7 @@ reading-preserved g c =
       room = at.invariant.room;
       bytes = HasTaken-more at.taken count (take count buf) first (g.I.Source.left at.input) rest at.invariant.bytes c.in-Ok-read.ensures.bytes.0 (length-take-le count buf bound);
       set = c.in_default-answer_lines.ensures.set ∙ at.invariant.set;
+      timed = adds_then (g.D.Disk.time c.args.disk.now) (g.D.Disk.time at.disk) (g.D.Disk.time c.answer_lines.new.disk) c.args.flushes.now at.flushes c.answer_lines.new.flushes at.invariant.timed c.answer_lines.ensures.timed;
       disk_later = let x = at.invariant.disk_later in let y = c.in_default-answer_lines.ensures.later.0 in omega (arith, x, y);
       host_later = let x = at.invariant.host_later in let y = c.in_default-answer_lines.ensures.later.1 in omega (arith, x, y);
       in_steady = c.in-Ok-read.ensures.cause.kept ∙ at.invariant.in_steady;
@@ -189,3 +192,18 @@ returns-then-count-eq0-clause-taken g c = λ is.
     let nothing : Consumes (g.I.Source.left at.input) rest [] = subst (λ (n : ℕ). Consumes (g.I.Source.left at.input) rest (take n c.read.new.buf)) c.if-count-eq0.true c.in-Ok-read.ensures.bytes.0 in
     let ends : IsAtEnd rest = c.in-Ok-read.ensures.bytes.1 c.if-count-eq0.true (let deref = c.deref_mut.ensures.len in omega (arith, len, part, clamped, room, deref)) in
     all_taken at.taken (g.I.Source.left c.args.input.now) (g.I.Source.left at.input) rest at.invariant.bytes at.invariant.within nothing ends
+
+-- ---- the clock, and what was added
+
+pub returns-in_default-clause-timed : goal.returns-in_default-clause-timed
+returns-in_default-clause-timed g c = adds_none (g.D.Disk.time c.args.disk.now) c.args.flushes.now
+
+pub returns-then-count-eq0-clause-timed : goal.returns-then-count-eq0-clause-timed
+returns-then-count-eq0-clause-timed g c =
+    let at = c.reading in
+    adds_then (g.D.Disk.time c.args.disk.now) (g.D.Disk.time at.disk) (g.D.Disk.time c.answer_last.new.disk) c.args.flushes.now at.flushes c.answer_last.new.flushes at.invariant.timed c.answer_last.ensures.timed
+
+pub returns-in-Err-clause-timed : goal.returns-in-Err-clause-timed
+returns-in-Err-clause-timed g c =
+    let at = c.reading in
+    adds_then (g.D.Disk.time c.args.disk.now) (g.D.Disk.time at.disk) (g.D.Disk.time c.answer_lines.new.disk) c.args.flushes.now at.flushes c.answer_lines.new.flushes at.invariant.timed c.answer_lines.ensures.timed

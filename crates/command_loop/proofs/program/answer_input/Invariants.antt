@@ -1,4 +1,5 @@
 use Rattle.std.proofs.Common.{◌≡◌, ◌≤◌, ◌-◌, vec_len}
+use Rattle.machine.specs.Work.{AddsFlushes}
 use Rattle.command_loop.specs.Points.{Point, At}
 use Rattle.command_loop.specs.ServerCalls.{setting_of}
 use Rattle.command_loop.proofs.Running.{IsRead, HasTaken}
@@ -13,6 +14,7 @@ invariant-reading g l = record {
   within : l.taken ≤ 16777216;
   room : vec_len l.room ≡ 65536;
   set : g.S.Server.set_to l.server ≡ g.S.Server.set_to l.fn.server;
+  timed : AddsFlushes (g.D.Disk.time l.fn.disk) (g.D.Disk.time l.disk) l.fn.flushes l.flushes;
   disk_later : g.D.Disk.faults l.fn.disk ≤ g.D.Disk.faults l.disk;
   host_later : g.H.Host.faults l.fn.host ≤ g.H.Host.faults l.host;
   in_steady : g.I.Source.faults l.input ≡ g.I.Source.faults l.fn.input;

@@ -3,6 +3,7 @@ use Rattle.std.specs.Prelude.{Option, Some}
 use Rattle.std.proofs.lemmas.Result.{err_from_is_err_and}
 use Rattle.command_text.specs.Lines.{line_of}
 use Rattle.io_traits.specs.Host.{Held}
+use Rattle.machine.proofs.Adding.{adds_then}
 use Rattle.command_loop.specs.Points.{Outer, IsOuter, At}
 use Rattle.command_loop.specs.ServerCalls.{setting_of}
 use Rattle.command_loop.specs.Service.{Stopped, AnswersEnd}
@@ -42,3 +43,7 @@ returns-clause-served g c = λ p now.
     last_answered setting past mid left (line_of c.args.text.now) p q said.2 IsThere c.answer_end.result
     (subst (λ (h : Option Held). AnswersEnd setting mid left q (IsOuter (g.D.Disk.time c.answer_end.new.disk) (g.D.Disk.contents c.answer_end.new.disk) h faults (g.O.Sink.written c.answer_end.new.out) c.answer_end.new.flushes) c.answer_end.result) (sym said.1.outer.moment.held)
     (subst (λ (s : RunSettings). AnswersEnd (setting_of s) mid left q (IsOuter (g.D.Disk.time c.answer_end.new.disk) (g.D.Disk.contents c.answer_end.new.disk) (Some host) faults (g.O.Sink.written c.answer_end.new.out) c.answer_end.new.flushes) c.answer_end.result) c.in_ok-answer.ensures.set ends))
+
+pub returns-clause-timed : goal.returns-clause-timed
+returns-clause-timed g c =
+    adds_then (g.D.Disk.time c.args.disk.now) (g.D.Disk.time c.answer.new.disk) (g.D.Disk.time c.answer_end.new.disk) c.args.flushes.now c.answer.new.flushes c.answer_end.new.flushes c.answer.ensures.timed c.answer_end.ensures.timed

@@ -39,3 +39,4 @@ returns-in-Ok-clause-clauses g c = λ run seen.
     subst (λ (s : RunSettings). AnswersInput (setting_of s) (g.D.Disk.left_since mid) (g.D.Disk.left_since new) said.result bytes left_after p IsThere) c.in-Ok.ensures.set
     (said.ensures.served p bytes left_is
     (subst (λ (s : RunSettings). At (setting_of s) stands (g.D.Disk.time mid) (g.D.Disk.contents mid) (g.D.Disk.left_since mid) (g.H.Host.held c.args.host.now) (g.H.Host.faults c.args.host.now) (g.O.Sink.written c.args.out.now) c.new-flushes.result p) (sym c.in-Ok.ensures.set) here)))
+    said.ensures.timed

@@ -8,6 +8,7 @@ use Rattle.store_writes.proofs.headers.store_all_headers.Goals as goal
 pub loop-rest-init : goal.loop-rest-init
 loop-rest-init g c = record {
   so_far = λ limit coins store tree on grows. so_far_none g.D.Disk.time g.D.Disk.left_since g.D.Disk.contents g.met.D.Disk.since_earlier limit store coins c.args.headers.now tree c.args.disk.now c.args.blocks.now on grows;
+  later = le_refl _;
   faults = le_refl _;
   read = refl;
 }
@@ -35,6 +36,7 @@ loop-rest-preserved g c =
           subst (λ (l : List Header). SoFar limit (g.D.Disk.left_since c.args.disk.now) (g.D.Disk.left_since c.store_headers.new.disk) (g.D.Disk.time c.args.disk.now) (g.D.Disk.time c.store_headers.new.disk) (g.D.Disk.contents c.args.disk.now) (g.D.Disk.contents c.store_headers.new.disk) store c.args.headers.now l c.store_headers.new.blocks coins tree) (sym behind)
           (so_far_more g.D.Disk.time g.D.Disk.left_since g.D.Disk.contents g.met.D.Disk.since_earlier limit store coins c.args.headers.now tree c.args.disk.now at.disk c.store_headers.new.disk rest at.blocks n c.min-count.ensures c.loop-rest-test.true far
           c.store_headers.new.blocks next.0 next.2 stored.0 stored.1);
+      later = let a = at.invariant.later in let b = c.in-Ok.ensures.later in omega (arith, a, b);
       faults = let a = at.invariant.faults in let b = c.in-Ok.ensures.faults in omega arith;
       read = c.in-Ok.ensures.read ∙ at.invariant.read;
     }

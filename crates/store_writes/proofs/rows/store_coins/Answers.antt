@@ -1,4 +1,4 @@
-use Rattle.std.proofs.Common.{◌≡◌, ℕ, List, [], ◌∷◌, ◌++◌, Result, Ok, Err, inl, inr, refl, sym, ap, ◌∙◌}
+use Rattle.std.proofs.Common.{◌≡◌, ℕ, List, [], ◌∷◌, ◌++◌, arith, le_refl, Result, Ok, Err, inl, inr, refl, sym, ap, ◌∙◌}
 use Rattle.std.specs.Prelude.{OnErr}
 use Rattle.std.proofs.lemmas.List.{append-nil}
 use Rattle.base_types.specs.Flushes.{begun_flush, done_at}
@@ -7,6 +7,7 @@ use Rattle.base_types.specs.declared.flushes.Flushed.{Flushed}
 use Rattle.coin_store.specs.Batches.{BatchFits}
 use Rattle.coin_store.specs.declared.marker.Marker.TheVariants.{At}
 use Rattle.machine.specs.State.{Flush}
+use Rattle.machine.proofs.Adding.{adds_nothing}
 use Rattle.store_writes.proofs.Events.{coins_part, coins_now, coins_whole, nothing_begun}
 use Rattle.store_writes.proofs.rows.store_coins.Goals as goal
 
@@ -53,3 +54,35 @@ returns-clause-ok g c limit blocks store keys touched payload payloads total row
       coins_now g.D.Disk.time g.D.Disk.left_since g.D.Disk.contents g.met.D.Disk.since_earlier g.met.D.Disk.reads_as c.args.disk.now c.apply.new.disk limit blocks c.args.coins.now store on
           c.args.tip.now rows c.args.why touched fits replay moments c.apply.ensures.others c.apply.new.self holds same.file same.mask same.base,
     )
+
+-- ---- the clock, and what was added
+
+pub returns-in_err-begin-clause-timed : goal.returns-in_err-begin-clause-timed
+returns-in_err-begin-clause-timed g c = adds_nothing (g.D.Disk.time c.args.disk.now) (g.D.Disk.time c.args.disk.now) c.args.flushes.now c.begin.new.self (le_refl _) c.in_err-begin.ensures.err
+
+pub returns-in_err-apply-clause-timed : goal.returns-in_err-apply-clause-timed
+returns-in_err-apply-clause-timed g c =
+    let flushes : List Flushed = c.args.flushes.now in
+    let low = g.D.Disk.time c.args.disk.now in
+    let later = c.apply.ensures.part.later in
+    record {
+      later = later;
+      flushes = begun_flush Full c.args.tip.now c.args.why low ∷ [];
+      added = c.in_ok-begin.ensures.ok ∙ ap (λ (t : ℕ). flushes ++ begun_flush Full c.args.tip.now c.args.why t ∷ []) c.clock.ensures;
+      in_order = ((le_refl low, later, λ d is. absurd cc, λ told. absurd cc), tt);
+    }
+
+pub returns-clause-timed : goal.returns-clause-timed
+returns-clause-timed g c =
+    let flushes : List Flushed = c.args.flushes.now in
+    let low = g.D.Disk.time c.args.disk.now in
+    let high = g.D.Disk.time c.apply.new.disk in
+    let begun : Flushed = begun_flush Full c.args.tip.now c.args.why low in
+    let began : c.begin.new.self ≡ flushes ++ begun ∷ [] = c.in_ok-begin.ensures.ok ∙ ap (λ (t : ℕ). flushes ++ begun_flush Full c.args.tip.now c.args.why t ∷ []) c.clock.ensures in
+    let later = c.apply.ensures.part.later in
+    record {
+      later = later;
+      flushes = done_at high begun ∷ [];
+      added = c.finish.ensures flushes begun began ∙ ap (λ (t : ℕ). flushes ++ done_at t begun ∷ []) c.clock-2.ensures;
+      in_order = ((le_refl low, later, λ d is. (let same : high ≡ d = cc in (omega (arith, later, same), omega (arith, same))), λ told. absurd cc), tt);
+    }

@@ -5,6 +5,8 @@
 mod block_view;
 mod layers;
 mod over;
+#[cfg(test)]
+mod tests;
 mod tip;
 
 pub use block_view::BlockView;

@@ -14,7 +14,7 @@ use Rattle.command_text.specs.declared.line.Line.{Line}
 use Rattle.command_text.specs.declared.line.LineRefused.{LineRefused}
 use Rattle.store_state.specs.Breaks.{IsBroken}
 use Rattle.store_state.specs.Roles.{full_of, snapshot_of}
-use Rattle.store_state.specs.State.{StoreState}
+use Rattle.store_state.specs.State.{StoreState, first_rules}
 use Rattle.machine.specs.Answers.{found_of}
 use Rattle.machine.specs.Calls.{IsOpening, IsOpen}
 use Rattle.machine.specs.State.{Setting, State, begins}
@@ -28,10 +28,13 @@ use Rattle.command_loop.specs.Points.{Standing}
 abbrev pub setting_of : RunSettings → Setting
 setting_of settings = record { limit = settings.limits.headers; cache = settings.cache; given = settings.rules }
 
--- the limits and the cache are in their ranges
-abbrev pub AreInRange : RunSettings → Type 0
-AreInRange settings =
-    (settings.limits.file_bytes ≤ 2 ^ 63) × (1 ≤ settings.limits.headers) × (settings.limits.headers ≤ 2 ^ 31) × (1 ≤ settings.cache) × (settings.cache ≤ 4000000)
+-- the limits and the cache are in their ranges, and the rules are those that hold from the first block on, since no store keeps
+-- others yet
+pub record AreInRange (settings : RunSettings) : Type 0 where
+  pub file_bytes : settings.limits.file_bytes ≤ 2 ^ 63
+  pub headers : (1 ≤ settings.limits.headers) × (settings.limits.headers ≤ 2 ^ 31)
+  pub cache : (1 ≤ settings.cache) × (settings.cache ≤ 4000000)
+  pub rules : settings.rules ≡ first_rules
 
 abbrev pub Asked : Type 0
 Asked = Result Line LineRefused

@@ -1,10 +1,11 @@
 //! The scan itself.
 
-ghost use Rattle.std.specs.Prelude.{◌≡◌, ◌≢◌, ◌∷◌, [], ◌+◌, ◌-◌, ◌<◌, ◌≤◌, ◌⊎◌, ◌↔◌, length, IsTrue, IsOk, OnOk, OnErr, IfOk, IfSome, IfNone, IfErr, IsErrOf, Ok, Err, false, true};
+ghost use Rattle.std.specs.Prelude.{◌≡◌, ◌≢◌, ℕ, List, Some, ◌∷◌, [], ◌+◌, ◌-◌, ◌<◌, ◌≤◌, ◌⊎◌, ◌↔◌, length, IsTrue, IsOk, OnOk, OnErr, IfOk, IfSome, IfNone, IfErr, IsErrOf, Ok, Err, false, true};
 ghost use Rattle.io_traits.specs.Causes.{Rose};
 ghost use Rattle.io_traits.specs.Told.{OnTold};
 ghost use Rattle.io_traits.specs.Host.{Held, unread_bytes};
 ghost use Rattle.block_codec.specs.Frames.{frames};
+ghost use Rattle.block_codec.specs.Text.{text_of};
 ghost use Rattle.frame_scan.specs.declared.fault.FrameFault.TheVariants as fault;
 ghost use Rattle.block_codec.specs.declared.block.Block.{Block as BlockValue};
 ghost use Rattle.frame_scan.specs.Scan.{at_start, bytes_taken, max_file_bytes, max_ahead, bytes_left, frames_left, Moves, Passes, Advances, BeginsFrame, OutgrowsPiece};
@@ -74,6 +75,9 @@ impl Frames {
         // Of a host that tells its files: the frames come in order, and None after the last.
         ensures frame { IfOk result (λ found. IfSome found (λ block. OnTold (H.held host.old) (H.held host.new) (λ s t. frames_left self.old s ≡ block ∷ frames_left self.new t))) }
         ensures ended { IfOk result (λ found. IfNone found (OnTold (H.held host.old) (H.held host.new) (λ s t. (frames_left self.old s ≡ []) × (unread_bytes t ≡ [])))) }
+
+        // A block has a text.
+        ensures text { IfOk result (λ found. IfSome found (λ block. (text : List ℕ) × (text_of block ≡ Some text))) }
 
         // An error loses none of them.
         ensures kept { OnErr result (OnTold (H.held host.old) (H.held host.new) (λ s t. frames_left self.new t ≡ frames_left self.old s)) }
@@ -184,6 +188,7 @@ impl Frames {
     fn take_block(&mut self, len: usize) -> Result<Block, FrameFault>
         requires { BeginsBlock len self.old.ahead }
         ensures frame { IfOk result (λ block. (held : Held) → frames_left self.old held ≡ block ∷ frames_left self.new held) }
+        ensures text { IfOk result (λ block. (text : List ℕ) × (text_of block ≡ Some text)) }
         ensures passes { (held : Held) → Passes self.old self.new held held }
         ensures passed { OnOk result (self.old.passed < self.new.passed) }
         ensures bytes_taken { bytes_taken self.new ≡ bytes_taken self.old }

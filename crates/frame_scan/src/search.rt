@@ -1,6 +1,7 @@
 //! Looking for a frame among the bytes that were taken.
 
-ghost use Rattle.std.specs.Prelude.{◌≡◌, ◌+◌, false, drop, IfOk, IfErr, OnOk, OnErr};
+ghost use Rattle.std.specs.Prelude.{◌≡◌, ◌+◌, ℕ, List, Some, false, drop, IfOk, IfErr, OnOk, OnErr};
+ghost use Rattle.block_codec.specs.Text.{text_of};
 ghost use Rattle.frame_scan.specs.declared.fault.FrameFault.TheVariants.{NoMemory};
 ghost use Rattle.frame_scan.specs.Search.{IsRest, Finds, SameFrames, HasFrame, HasHeader, BeginsBlock};
 
@@ -57,6 +58,7 @@ pub(crate) fn take_block(
 ) -> Result<Block, FrameFault>
     requires { BeginsBlock len window.old }
     ensures block { IfOk result (λ block. HasFrame false window.old block window.new) }
+    ensures text { IfOk result (λ block. (text : List ℕ) × (text_of block ≡ Some text)) }
     ensures passed { OnOk result (window.new ≡ drop (8 + len) window.old) }
     ensures kept { OnErr result (window.new ≡ window.old) }
     ensures memory { IfErr result (λ error. error ≡ NoMemory) }

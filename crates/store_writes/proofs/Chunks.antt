@@ -19,7 +19,18 @@ use Rattle.machine.proofs.Joining.{nothing_done, whole_both, whole_then}
 use Rattle.machine.proofs.Telling.{more_events}
 use Rattle.store_state.specs.State.{StoreState, first_rules}
 use Rattle.store_writes.specs.OnDisk.{OnDisk}
-use Rattle.store_writes.specs.Written.{Writes, WritesAll, WritesPart, WritesSome, events_call, with_tree}
+use Rattle.store_writes.specs.Written.{SameFiles, Writes, WritesAll, WritesPart, WritesSome, events_call, with_tree}
+
+-- ---- the files
+
+pub same_files : (blocks : OpenStore) → SameFiles blocks blocks
+same_files blocks = record { headers = record { file = refl; limit = refl }; bodies = record { file = refl; limit = refl } }
+
+pub files_then : (old mid new : OpenStore) → SameFiles old mid → SameFiles mid new → SameFiles old new
+files_then old mid new one two = record {
+  headers = record { file = two.headers.file ∙ one.headers.file; limit = two.headers.limit ∙ one.headers.limit };
+  bodies = record { file = two.bodies.file ∙ one.bodies.file; limit = two.bodies.limit ∙ one.bodies.limit };
+}
 
 -- ---- events
 

@@ -1,3 +1,3 @@
 mod Chunks
-mod Events
+pub mod Events
 pub mod Images

@@ -5,9 +5,10 @@ use Rattle.base_types.specs.declared.fault.StoreFault.{StoreFault}
 use Rattle.base_types.specs.declared.fault.StoreFault.TheVariants.{NoMemory, DiskFailed, Damaged, Full, CacheFull}
 use Rattle.base_types.specs.declared.flushes.Flushed.{Flushed}
 use Rattle.base_types.specs.declared.hash.Hash32.{Hash32}
-use Rattle.batch_log.specs.OpenLog.{IsOver, OpenLog}
+use Rattle.batch_log.specs.OpenLog.{IsOver, OpenLog, SameFile}
 use Rattle.block_codec.specs.declared.block.Block.{Block}
 use Rattle.block_store.specs.Bodies.{body_text}
+use Rattle.block_store.specs.OpenStore.{OpenStore}
 use Rattle.coin_store.specs.Batches.{Row}
 use Rattle.coin_store.specs.Places.{coins_after_rows}
 use Rattle.coin_store.specs.declared.marker.Marker.TheVariants.{At}
@@ -61,6 +62,11 @@ with_stored body store = record store { bodies = store.bodies ++ body ∷ [] }
 -- rows and a marker `At` a tip
 abbrev pub flushed_to : Hash32 → List Row → StoreState → StoreState
 flushed_to tip rows store = record store { active = record store.active { marker = At tip; coins = coins_after_rows store.active.coins rows } }
+
+-- the same files with the same limits
+pub record SameFiles (old new : OpenStore) : Type 0 where
+  pub headers : SameFile old.headers new.headers
+  pub bodies : SameFile old.bodies new.bodies
 
 -- ---- why headers may not be stored
 

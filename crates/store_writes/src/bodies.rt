@@ -12,7 +12,7 @@ ghost use Rattle.coin_store.specs.declared.store.CoinStore.{CoinStore};
 ghost use Rattle.machine.specs.State.{BodyStored};
 ghost use Rattle.store_state.specs.State.{StoreState, has_record};
 ghost use Rattle.store_writes.specs.OnDisk.{OnDisk};
-ghost use Rattle.store_writes.specs.Written.{Writes, WritesPart, body_as_stored, with_stored};
+ghost use Rattle.store_writes.specs.Written.{SameFiles, Writes, WritesPart, body_as_stored, with_stored};
 
 use base_types::{Hash32, StoreFault};
 use block_codec::Block;
@@ -39,6 +39,7 @@ pub fn store_body<D: Disk>(
         → body_broken (place_below store.tree block.now.header.prev) block.now ≡ None → has_record store.bodies hash.now ≡ false
         → OnErr result (WritesPart limit (D.left_since disk.old) (D.left_since disk.new) (D.time disk.old) (D.time disk.new) (D.contents disk.old) (D.contents disk.new) [] (BodyStored hash.now block.now) store) }
     ensures same { OnErr result (SameStore blocks.old blocks.new) }
+    ensures files { SameFiles blocks.old blocks.new }
     ensures cause { IfErr result (AppendCause blocks.old.bodies (length (body_text hash.now block.now)) (D.faults disk.old) (D.faults disk.new)) }
     ensures later { D.time disk.old ≤ D.time disk.new }
     ensures faults { D.faults disk.old ≤ D.faults disk.new }

@@ -10,7 +10,7 @@ ghost use Rattle.coin_store.specs.declared.store.CoinStore.{CoinStore};
 ghost use Rattle.machine.specs.State.{HeadersStored, header_events};
 ghost use Rattle.store_state.specs.State.{StoreState};
 ghost use Rattle.store_writes.specs.OnDisk.{OnDisk};
-ghost use Rattle.store_writes.specs.Written.{HeadersCause, Writes, WritesAll, WritesPart, WritesSome, with_tree};
+ghost use Rattle.store_writes.specs.Written.{HeadersCause, SameFiles, Writes, WritesAll, WritesPart, WritesSome, with_tree};
 
 use base_types::StoreFault;
 use block_codec::Header;
@@ -34,6 +34,7 @@ pub fn store_headers<D: Disk>(
         → OnDisk limit (D.contents disk.old) (D.left_since disk.old (D.time disk.old)) blocks.old coins store → tree_with limit store.tree headers.now ≡ Some tree
         → OnErr result (WritesPart limit (D.left_since disk.old) (D.left_since disk.new) (D.time disk.old) (D.time disk.new) (D.contents disk.old) (D.contents disk.new) [] (HeadersStored headers.now) store) }
     ensures same { OnErr result (SameStore blocks.old blocks.new) }
+    ensures files { SameFiles blocks.old blocks.new }
     ensures cause { IfErr result (AppendCause blocks.old.headers (80 * length headers.now) (D.faults disk.old) (D.faults disk.new)) }
     ensures later { D.time disk.old ≤ D.time disk.new }
     ensures faults { D.faults disk.old ≤ D.faults disk.new }
@@ -60,6 +61,7 @@ pub fn store_all_headers<D: Disk>(
     ensures err { (limit : ℕ) (coins : CoinStore) (store : StoreState) (tree : Tree)
         → OnDisk limit (D.contents disk.old) (D.left_since disk.old (D.time disk.old)) blocks.old coins store → tree_with limit store.tree headers.now ≡ Some tree
         → OnErr result (WritesSome limit (D.left_since disk.old) (D.left_since disk.new) (D.time disk.old) (D.time disk.new) (D.contents disk.old) (D.contents disk.new) [] (header_events headers.now) store) }
+    ensures files { SameFiles blocks.old blocks.new }
     ensures cause { IfErr result (HeadersCause blocks.new.headers (D.faults disk.old) (D.faults disk.new)) }
     ensures later { D.time disk.old ≤ D.time disk.new }
     ensures faults { D.faults disk.old ≤ D.faults disk.new }

@@ -9,7 +9,7 @@ ghost use Rattle.block_store.specs.OpenStore.{OpenStore};
 ghost use Rattle.chain_model.specs.Choice.{coins_at};
 ghost use Rattle.coin_store.specs.Batches.{Row};
 ghost use Rattle.coin_store.specs.Places.{coins_after_rows};
-ghost use Rattle.coin_store.specs.Staging.{IsStaged, IsReady};
+ghost use Rattle.coin_store.specs.Staging.{IsStaged, IsReady, SameStore};
 ghost use Rattle.coin_store.specs.declared.marker.Marker.TheVariants.{At};
 ghost use Rattle.machine.specs.State.{Flush};
 ghost use Rattle.machine.specs.Work.{AddsFlushes};
@@ -43,6 +43,7 @@ pub fn store_coins<D: Disk>(
         → coins_at (choice_of store store.active) tip.now ≡ Some (coins_after_rows store.active.coins rows)
         → OnErr result ((added : List Flushed) × (flushes.new ≡ flushes.old ++ added) × ((added ≡ []) ⊎ (added ≡ begun_flush Full tip.now why (D.time disk.old) ∷ []))
         × WritesPart limit (D.left_since disk.old) (D.left_since disk.new) (D.time disk.old) (D.time disk.new) (D.contents disk.old) (D.contents disk.new) added (Flush Full tip.now why touched) store) }
+    ensures same { SameStore coins.old coins.new }
     ensures cause { IfErr result (FlushCause (D.faults disk.old) (D.faults disk.new)) }
     ensures timed { AddsFlushes (D.time disk.old) (D.time disk.new) flushes.old flushes.new }
     ensures faults { D.faults disk.old ≤ D.faults disk.new }

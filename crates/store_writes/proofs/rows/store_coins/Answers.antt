@@ -86,3 +86,8 @@ returns-clause-timed g c =
       added = c.finish.ensures flushes begun began ∙ ap (λ (t : ℕ). flushes ++ done_at t begun ∷ []) c.clock-2.ensures;
       in_order = ((le_refl low, later, λ d is. (let same : high ≡ d = cc in (omega (arith, later, same), omega (arith, same))), λ told. absurd cc), tt);
     }
+
+-- ---- the store is the same but for its rows
+
+pub returns-in_err-begin-clause-same : goal.returns-in_err-begin-clause-same
+returns-in_err-begin-clause-same g c = record { file = refl; base = refl; limit = refl; mask = refl; start = refl; salt = refl }

@@ -1,0 +1,2 @@
+mod BlockOrder
+mod LeastBlock

@@ -1,4 +1,5 @@
 mod Amounts
 mod Order
+pub mod PayableTxs
 mod Pushes
 mod Twins

@@ -7,6 +7,7 @@ mod fault;
 mod finality;
 mod height_push;
 mod inputs;
+mod payable;
 mod place;
 mod structure;
 mod transaction;
@@ -14,6 +15,7 @@ mod witness;
 
 pub use body::{check_body, check_hashed_body};
 pub use fault::CheckFault;
+pub use payable::has_unpayable;
 
 #[cfg(test)]
 mod tests;

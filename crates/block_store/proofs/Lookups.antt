@@ -1,11 +1,14 @@
 -- Which place has a number.
 use Rattle.std.proofs.Common.{◌≡◌, ◌≤◌, ℕ, List, length, get_or, Option, Some, None, sym, ap, ◌∙◌, arith}
-use Rattle.std.specs.Prelude.{All, Contains, slice_get, IfSome, IsSomeAnd}
+use Rattle.std.specs.Prelude.{All, Contains, slice_get, IfErr, IfSome, IsSomeAnd, Result, Ok, Err}
 use Rattle.std.proofs.lemmas.Option.{get_or_from_slice_get, slice_get_within, slice_get-get_or, slice_get_past}
+use Rattle.base_types.specs.declared.fault.StoreFault.{StoreFault}
+use Rattle.base_types.specs.declared.fault.StoreFault.TheVariants.{NoMemory, DiskFailed, Damaged, Full, CacheFull}
 use Rattle.base_types.specs.declared.hash.Hash32.{Hash32}
 use Rattle.batch_log.specs.OpenLog.{places_of}
 use Rattle.batch_log.specs.declared.places.Place.{Place}
 use Rattle.block_store.specs.Index.{last_place}
+use Rattle.block_store.specs.Reading.{FetchCause, FetchFault}
 use Rattle.block_store.proofs.IndexLaws.{last_is}
 use Rattle.block_store.proofs.HashSteps.{as_many, of_each}
 
@@ -49,3 +52,15 @@ one_number m n e = cc
 pub found_listed : (places : List Place) (n : ℕ) (found : Option Place) → found ≡ slice_get places n → All (λ (p : Place). 32 ≤ p.len) places → IfSome found (λ p. Contains places p × (32 ≤ p.len))
 found_listed places n None is all = tt
 found_listed places n (Some p) is all = (listed places n p (sym is), of_each (λ (q : Place). 32 ≤ q.len) places n p all (sym is))
+
+-- why a record may not be read, wherever it lies
+fault_of : (file gate before now : ℕ) (fault : StoreFault) → FetchCause file gate before now fault → FetchFault file before now fault
+fault_of file gate before now NoMemory cause = tt
+fault_of file gate before now DiskFailed cause = cause
+fault_of file gate before now (Damaged f at) cause = cause.0
+fault_of file gate before now (Full f) cause = absurd cause
+fault_of file gate before now CacheFull cause = absurd cause
+
+pub fault_found : {T : Type 0} (file gate before now : ℕ) (result : Result T StoreFault) → IfErr result (FetchCause file gate before now) → IfErr result (FetchFault file before now)
+fault_found file gate before now (Ok value) cause = tt
+fault_found file gate before now (Err fault) cause = fault_of file gate before now fault cause

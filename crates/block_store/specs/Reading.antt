@@ -2,6 +2,7 @@
 use Rattle.std.specs.Prelude.{◌≡◌, ◌≢◌, ⊤, ℕ, ◌+◌, ◌-◌, ◌≤◌, ◌==◌, List, length, take, drop, Option, Some, None, if◌then◌else◌}
 use Rattle.std.specs.Option.{option_and_then}
 use Rattle.std.specs.Result.{result_ok}
+use Rattle.disk_model.specs.Disk.{Rose}
 use Rattle.base_types.specs.declared.fault.StoreFault.{StoreFault}
 use Rattle.base_types.specs.declared.fault.StoreFault.TheVariants.{NoMemory, DiskFailed, Damaged, Full, CacheFull}
 use Rattle.batch_log.specs.Reading.{ReadCause}
@@ -25,6 +26,14 @@ block_there place bytes = option_and_then (λ text. result_ok (block_of text)) (
 abbrev pub FetchCause : ℕ → ℕ → ℕ → ℕ → StoreFault → Type 0
 FetchCause file gate before now NoMemory = ⊤
 FetchCause file gate before now fault = ReadCause file gate before now fault
+
+-- the same of some record of the file
+abbrev pub FetchFault : ℕ → ℕ → ℕ → StoreFault → Type 0
+FetchFault file before now NoMemory = ⊤
+FetchFault file before now DiskFailed = Rose before now
+FetchFault file before now (Damaged f gate) = f ≡ file
+FetchFault file before now (Full f) = ⊥
+FetchFault file before now CacheFull = ⊥
 
 -- at most so many bytes of the two files were read, and none of others, where the disk tells it
 abbrev pub ReadBoth : ℕ → ℕ → Option (ℕ → ℕ) → Option (ℕ → ℕ) → Type 0

@@ -10,7 +10,7 @@ ghost use Rattle.batch_log.specs.declared.places.Place.{Place};
 ghost use Rattle.block_codec.specs.Text.{text_of};
 ghost use Rattle.block_store.specs.Headers.{headers_text, headers_of};
 ghost use Rattle.block_store.specs.Bodies.{body_text, body_hash, body_of};
-ghost use Rattle.block_store.specs.Reading.{whole_part, block_there, FetchCause, NoDamage, ReadBoth};
+ghost use Rattle.block_store.specs.Reading.{whole_part, block_there, FetchCause, FetchFault, NoDamage, ReadBoth};
 
 use crate::body_index::BodyIndex;
 use crate::header_list::HeaderRecord;
@@ -222,6 +222,7 @@ impl BlockStore {
             → MatchResult result (λ found. body_of payload ≡ found) (λ fault. OnDamaged fault (body_of payload ≡ None)) }
         ensures cause { (number : ℕ) (place : Place) → last_place self.now.hashes hash.now ≡ Some number → slice_get self.now.bodies.places number ≡ Some place
             → IfOk result IsSome × IfErr result (FetchCause 2 place.at (D.faults disk.old) (D.faults disk.new)) }
+        ensures fault { IfErr result (FetchFault 2 (D.faults disk.old) (D.faults disk.new)) }
         ensures faults { D.faults disk.old ≤ D.faults disk.new }
         ensures contents { D.contents disk.new ≡ D.contents disk.old }
         ensures quiet { Quiet D.time D.left_since disk.old disk.new }

@@ -2,13 +2,14 @@
 use Rattle.std.specs.Prelude.{◌≡◌, ℕ, ◌+◌, ◌≤◌, true, false, List, Contains, Option, Some, None, option_map}
 use Rattle.std.proofs.Common.{eqb, ap, ◌∙◌, refl, arith, inl, inr}
 use Rattle.std.proofs.lemmas.Bool.{cases_Bool, eqb-true}
-use Rattle.disk_model.specs.Disk.{changed_at}
+use Rattle.disk_model.specs.Disk.{Image, changed_at}
 use Rattle.disk_model.specs.Reads.{read_of, ReadUpTo}
 use Rattle.disk_model.proofs.Reading.{up_to_none}
+use Rattle.base_types.specs.Views.{ViewCounts}
 use Rattle.base_types.specs.declared.hash.OutPoint.{OutPoint}
 use Rattle.coin_store.specs.declared.places.CoinPlace.{CoinPlace}
 use Rattle.coin_store.specs.OpenIndex.{OpenIndex}
-use Rattle.coin_store.specs.Behind.{HasPlaceIn}
+use Rattle.coin_store.specs.Behind.{HasPlaceIn, MayFail}
 
 -- a call that counts the bytes of one file
 counted : (file n f : ℕ) (read : Option (ℕ → ℕ)) → eqb f file ≡ true → read_of (option_map (changed_at file (λ r. r + n)) read) f ≡ option_map (λ r. r + n) (read_of read f)
@@ -43,3 +44,7 @@ place_wider index keys more file wider p = record { key = p.key; named = wider p
 
 pub no_place : {X : Type 0} (place : CoinPlace) → None ≡ Some place → X
 no_place place e = absurd cc
+
+-- a call that listed nothing
+pub may_fail_read : (mask : List ℕ) (index : OpenIndex) (told : Option Image) (old new : ViewCounts) → old.faults ≤ new.faults → new.broken ≡ old.broken → MayFail mask index told old new
+may_fail_read mask index told old new later same = record { later = later; sound = λ image is all. same }

@@ -27,6 +27,7 @@ use Rattle.coin_store.proofs.RowLaws.{some_is, value_again, obfuscated_twice}
 use Rattle.coin_store.proofs.Seen.{get-put, seen, no_bytes}
 use Rattle.coin_store.specs.Store.{Knows, Holds, texts}
 use Rattle.coin_store.specs.Viewing.{coins_seen}
+use Rattle.coin_store.specs.Behind.{AllRead}
 
 -- each outpoint's place means its coin
 abbrev Mean : List ℕ → Image → CoinPlaces → Coins → Type 0
@@ -236,3 +237,18 @@ base_known store base batches k q =
     ap (λ (p : CoinPlaces). is_some (live (get p q))) k.base_places
     ∙ ap is_some (all_live store.log.file store.base store.mask base [] k.base_fits tt q)
     ∙ base_matches store.base store.mask base k.base_none q
+
+-- each place of a store reads as a coin
+pub held_reads : (contents : Option Image) (left : Image → Type 0) (store : CoinStore) (base : List (List Row)) (batches : List Batch) → Holds contents left store base batches → (image : Image) → contents ≡ Some image
+    → AllRead store.mask store.index image
+held_reads contents left store base batches h image told key place here none =
+    let places = store.index.places in
+    let coins : coins_at_places store.mask image places ≡ rows_after base batches = some_is _ _ (sym (ap (coins_seen store.mask store.index) told) ∙ held_coins contents left store base batches h) in
+    let reads : is_some (coin_there store.mask image place) ≡ true =
+    ap (λ (p : Option CoinPlace). is_some (p >>= coin_there store.mask image)) (sym here)
+    ∙ ap is_some (sym (live_means store.mask image (get places key)) ∙ sym (seen store.mask image places key))
+    ∙ ap (λ (c : Coins). is_some (get c key)) coins
+    ∙ sym (coins_known store base batches h.knows key)
+    ∙ ap is_some here in
+    let misses = ap is_some none in
+    absurd cc

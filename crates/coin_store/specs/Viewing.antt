@@ -2,7 +2,7 @@
 use Rattle.std.specs.Prelude.{⊤, ◌≡◌, ℕ, List, [], ◌∷◌, map, Option, None, IsSome, Result, Ok, Err, option_map}
 use Rattle.disk_model.specs.Disk.{Image, Rose}
 use Rattle.base_types.specs.Coins.{Coins}
-use Rattle.base_types.specs.Views.{BrokenPlace}
+use Rattle.base_types.specs.Views.{BrokenPlace, ViewCounts}
 use Rattle.base_types.specs.declared.coin.Coin.{Coin}
 use Rattle.base_types.specs.declared.fault.StoreFault.{StoreFault}
 use Rattle.base_types.specs.declared.fault.StoreFault.TheVariants.{NoMemory, DiskFailed, Damaged, Full, CacheFull}
@@ -39,6 +39,10 @@ AnswersPlace mask image place (Err CacheFull) = ⊤
 
 abbrev pub broken_places : List Gate → List BrokenPlace
 broken_places gates = map (λ gate. record { file = gate.file; at = gate.at }) gates
+
+-- how often the disk failed, and the records that were found broken
+abbrev pub view_counts : ℕ → List Gate → ViewCounts
+view_counts faults gates = record { faults = faults; broken = broken_places gates; entries = 0 }
 
 -- the place that a fault says is broken
 abbrev pub broken_in : StoreFault → List BrokenPlace

@@ -6,9 +6,9 @@ ghost use Rattle.disk_model.specs.Reads.{OnlyRead, OnlyReadUpTo};
 ghost use Rattle.disk_model.proofs.Reading.{only_read_none, only_read_then};
 ghost use Rattle.base_types.specs.Coins.{CoinFits};
 ghost use Rattle.base_types.specs.Views.{FindsFault, AnswersCoin};
-ghost use Rattle.coin_store.specs.Behind.{coin_bytes, coin_place, HasPlaceIn};
+ghost use Rattle.coin_store.specs.Behind.{coin_bytes, coin_place, HasPlaceIn, MayFail, may_fail_none, may_fail_then};
 ghost use Rattle.coin_store.specs.Places.{coin_there};
-ghost use Rattle.coin_store.specs.Viewing.{PlaceCause, AnswersPlace, FaultCause, IsBrokenFault, broken_places, broken_in, found_broken, coins_seen};
+ghost use Rattle.coin_store.specs.Viewing.{PlaceCause, AnswersPlace, FaultCause, IsBrokenFault, broken_places, broken_in, found_broken, coins_seen, view_counts};
 ghost use Rattle.coin_store.specs.declared.places.CoinPlace.{CoinPlace};
 
 use crate::batch::Gate;
@@ -39,6 +39,7 @@ fn read_place<D: Disk>(
     ensures coin { (m : ℕ → List ℕ) → D.contents disk.old ≡ Some m → IfOk result (λ coin. coin ≡ coin_there mask.now m place) }
     ensures fits { IfOk result (λ coin. IfSome coin CoinFits) }
     ensures cause { PlaceCause (D.faults disk.old) (D.faults disk.new) result }
+    ensures later { D.faults disk.old ≤ D.faults disk.new }
     ensures read { OnlyReadUpTo D.contents D.time D.left_since D.bytes_read place.len (λ f. f ≡ place.file) disk.old disk.new }
 {
     let mut bytes = Vec::from_elem(alloc, 0, place.len as usize)?;
@@ -106,12 +107,13 @@ impl<'a, D: Disk> View for StoreView<'a, D> {
 
     ghost coins = { λ v. coins_seen v.mask.now v.index.now (D.contents v.disk.now) };
 
-    ghost counts = { λ v. record { faults = D.faults v.disk.now; broken = broken_places v.broken.now.items; entries = 0 } };
+    ghost counts = { λ v. view_counts (D.faults v.disk.now) v.broken.now.items };
 
     ghost behind = { λ keys v w. (w.index.now ≡ v.index.now) × (w.mask.now ≡ v.mask.now) × (w.disk.ghost_name ≡ v.disk.ghost_name) × (w.broken.ghost_name ≡ v.broken.ghost_name)
-        × OnlyRead D.contents D.time D.left_since D.bytes_read (HasPlaceIn v.index.now keys) v.disk.now w.disk.now };
+        × OnlyRead D.contents D.time D.left_since D.bytes_read (HasPlaceIn v.index.now keys) v.disk.now w.disk.now
+        × MayFail v.mask.now v.index.now (D.contents v.disk.now) (view_counts (D.faults v.disk.now) v.broken.now.items) (view_counts (D.faults w.disk.now) w.broken.now.items) };
 
-    ghost behind_none = { λ keys v. (refl, refl, refl, refl, only_read_none D.contents D.time D.left_since D.bytes_read (HasPlaceIn v.index.now keys) v.disk.now) };
+    ghost behind_none = { λ keys v. (refl, refl, refl, refl, only_read_none D.contents D.time D.left_since D.bytes_read (HasPlaceIn v.index.now keys) v.disk.now, may_fail_none v.mask.now v.index.now (D.contents v.disk.now) (view_counts (D.faults v.disk.now) v.broken.now.items)) };
 
     ghost behind_then = { λ keys u v w a b. (
       b.0 ∙ a.0,
@@ -120,6 +122,8 @@ impl<'a, D: Disk> View for StoreView<'a, D> {
       b.3 ∙ a.3,
       only_read_then D.contents D.time D.left_since D.bytes_read (HasPlaceIn u.index.now keys) u.disk.now v.disk.now w.disk.now a.4
           (subst (λ (i : OpenIndex). OnlyRead D.contents D.time D.left_since D.bytes_read (HasPlaceIn i keys) v.disk.now w.disk.now) a.0 b.4),
+      may_fail_then u.mask.now v.mask.now u.index.now v.index.now (D.contents u.disk.now) (D.contents v.disk.now) (view_counts (D.faults u.disk.now) u.broken.now.items)
+          (view_counts (D.faults v.disk.now) v.broken.now.items) (view_counts (D.faults w.disk.now) w.broken.now.items) a.1 a.0 a.4.stays a.5 b.5,
     ) };
 
     /// The coin of an outpoint: None exactly where it has no place, the coin that the bytes at its place mean on this
@@ -128,9 +132,11 @@ impl<'a, D: Disk> View for StoreView<'a, D> {
         ensures coin { AnswersCoin (coins_seen self.old.mask.now self.old.index.now (D.contents self.old.disk.now)) key.now result }
         ensures fits { IfOk result (λ coin. IfSome coin CoinFits) }
         ensures coins { coins_seen self.new.mask.now self.new.index.now (D.contents self.new.disk.now) ≡ coins_seen self.old.mask.now self.old.index.now (D.contents self.old.disk.now) }
-        ensures cause { FindsFault 1 (record { faults = D.faults self.old.disk.now; broken = broken_places self.old.broken.now.items; entries = 0 }) (record { faults = D.faults self.new.disk.now; broken = broken_places self.new.broken.now.items; entries = 0 }) result }
+        ensures cause { FindsFault 1 (view_counts (D.faults self.old.disk.now) self.old.broken.now.items) (view_counts (D.faults self.new.disk.now) self.new.broken.now.items) result }
         ensures behind { (keys : List OutPoint) → Contains keys key.now → (self.new.index.now ≡ self.old.index.now) × (self.new.mask.now ≡ self.old.mask.now) × (self.new.disk.ghost_name ≡ self.old.disk.ghost_name) × (self.new.broken.ghost_name ≡ self.old.broken.ghost_name)
-            × OnlyRead D.contents D.time D.left_since D.bytes_read (HasPlaceIn self.old.index.now keys) self.old.disk.now self.new.disk.now }
+            × OnlyRead D.contents D.time D.left_since D.bytes_read (HasPlaceIn self.old.index.now keys) self.old.disk.now self.new.disk.now
+            × MayFail self.old.mask.now self.old.index.now (D.contents self.old.disk.now) (view_counts (D.faults self.old.disk.now) self.old.broken.now.items) (view_counts (D.faults self.new.disk.now) self.new.broken.now.items) }
+        ensures may_fail { MayFail self.old.mask.now self.old.index.now (D.contents self.old.disk.now) (view_counts (D.faults self.old.disk.now) self.old.broken.now.items) (view_counts (D.faults self.new.disk.now) self.new.broken.now.items) }
 
         // What it answers by the bytes at the place.
         ensures absent { coin_place self.old.index.now key.now ≡ None → result ≡ Ok None }

@@ -9,6 +9,7 @@ use Rattle.chain_state.specs.Waiting.{AreWaiting}
 use Rattle.chain_state.specs.declared.state.ChainState.{ChainState}
 use Rattle.chain_state.specs.declared.state.Shared.{Shared}
 use Rattle.coin_views.specs.Layers.{LayersStand, block_of, tip_means}
+use Rattle.coin_store.specs.declared.marker.Marker.TheVariants.{At}
 use Rattle.coin_views.specs.declared.layers.Layers.{Layers}
 use Rattle.machine.specs.State.{State, active_coins, choice_of}
 use Rattle.store_state.specs.Roles.{Alone}
@@ -29,7 +30,7 @@ pub record HasCoins (chain : ChainState) (state : State) (store : StoreState) : 
   pub waiting : AreWaiting chain.waiting state
 
 -- The files are those of a store, as each image stands for it, and the machine stands on it: with its tree and bodies, at the
--- chainstate's tip, with the coins of replaying the blocks to it.
+-- chainstate's tip, with the coins of replaying the blocks to it. A file of coins without a batch stands at the start.
 pub record IsStanding (limit : ℕ) (contents : Option Image) (images : Image → Type 0) (shared : Shared) (chain : ChainState) (state : State) (store : StoreState) : Type 0 where
   pub files : OnDisk limit contents images shared.blocks chain.store store
   pub headers : shared.tree.tree ≡ store.tree
@@ -39,6 +40,7 @@ pub record IsStanding (limit : ℕ) (contents : Option Image) (images : Image �
   pub bodies : state.bodies ≡ blocks_in empty store.bodies
   pub start : state.active.start ≡ store.active.start
   pub start_coins : state.active.start_coins ≡ store.active.start_coins
+  pub begun : chain.store.start ≡ At store.active.start
   pub kept : state.active.kept ≡ tip_of store.active
   pub tip : chain.tip ≡ state.active.tip
   pub role : state.role ≡ Alone

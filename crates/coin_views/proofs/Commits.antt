@@ -33,11 +33,12 @@ module _ (old new : Layers) (mid : Contents) (keeps : KeepsEntries (tip_of old) 
       let parent = means_parent (block_of new) none (tip_means new told) in
       (tip, parent.0 ∙ tip, record { over_parent = both.1; over_tip = parent.1 })
 
--- a look-up through both layers leaves each over what is below it: vt and vp were the tip cache and the coins of the parent at its
--- start, and wp are those of the parent at its end
-pub stand_through : (old new : Layers) (before after : Option Coins) (vt : Contents) (vp wp : Option Coins) → vt ≡ tip_of old → vp ≡ before → after ≡ wp → (StandsOver vt vp → StandsOver (tip_of new) wp)
-    → (StandsOver (block_of old) (means vt vp) → StandsOver (block_of new) (means (tip_of new) wp)) → LayersStand old before → LayersStand new after
-stand_through old new before after vt vp wp t p q tip block h = record {
-  over_parent = subst (StandsOver (tip_of new)) (sym q) (tip (subst (λ k. StandsOver k vp) (sym t) (subst (StandsOver (tip_of old)) (sym p) h.over_parent)));
-  over_tip = subst (λ k. StandsOver (block_of new) (means (tip_of new) k)) (sym q) (block (subst (StandsOver (block_of old)) (λ i. means (sym t i) (sym p i)) h.over_tip));
-}
+-- A look-up through both layers leaves each over what is below it: vt and vp were the tip cache and the coins of the parent at
+-- its start, and wp are those of the parent at its end.
+module _ (old new : Layers) (before after : Option Coins) (vt : Contents) (vp wp : Option Coins) (t : vt ≡ tip_of old) (p : vp ≡ before) (q : after ≡ wp) where
+  pub tip_through : (StandsOver vt vp → StandsOver (tip_of new) wp) → StandsOver (tip_of old) before → StandsOver (tip_of new) after
+  tip_through tip h = subst (StandsOver (tip_of new)) (sym q) (tip (subst (λ k. StandsOver k vp) (sym t) (subst (StandsOver (tip_of old)) (sym p) h)))
+
+  pub block_through : (StandsOver (block_of old) (means vt vp) → StandsOver (block_of new) (means (tip_of new) wp)) → StandsOver (block_of old) (tip_means old before) → StandsOver (block_of new) (tip_means new after)
+  block_through block h =
+      subst (λ k. StandsOver (block_of new) (means (tip_of new) k)) (sym q) (block (subst (StandsOver (block_of old)) (λ i. means (sym t i) (sym p i)) h))

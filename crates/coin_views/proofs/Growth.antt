@@ -30,11 +30,12 @@ module _ (keys : List OutPoint) where
   fetches_then old mid new a b = record { grows = grows_then old mid new a.grows b.grows; changes = b.changes ∙ a.changes }
 
   pub layers_none : (layers : Layers) (told : Option Coins) → LayersGrow keys layers layers told told
-  layers_none layers told = record { tip = fetches_none (tip_of layers); block = grows_none (block_of layers); means = refl }
+  layers_none layers told = record { tip = fetches_none (tip_of layers); block = grows_none (block_of layers); means = refl; stands = λ h. h }
 
   pub layers_then : (old mid new : Layers) (before between after : Option Coins) → LayersGrow keys old mid before between → LayersGrow keys mid new between after → LayersGrow keys old new before after
   layers_then old mid new before between after a b = record {
     tip = fetches_then (tip_of old) (tip_of mid) (tip_of new) a.tip b.tip;
     block = grows_then (block_of old) (block_of mid) (block_of new) a.block b.block;
     means = b.means ∙ a.means;
+    stands = λ h. b.stands (a.stands h);
   }

@@ -37,8 +37,9 @@ abbrev pub emptied : Contents → Contents
 emptied cache = contents empty [] (cache.spare + len cache.slots) cache.salt
 
 -- calls of the block view, over a parent with these coins before and after, may do this to the layers: the tip cache means
--- what it meant
+-- what it meant, and goes on standing over the parent
 pub record LayersGrow (keys : List OutPoint) (old new : Layers) (before after : Option Coins) : Type 0 where
   pub tip : MayFetch keys (tip_of old) (tip_of new)
   pub block : MayGrow keys (block_of old) (block_of new)
   pub means : tip_means new after ≡ tip_means old before
+  pub stands : StandsOver (tip_of old) before → StandsOver (tip_of new) after

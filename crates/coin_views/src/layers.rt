@@ -37,9 +37,10 @@ impl Layers {
         }
     }
 
-    /// The coins of the block view, over the tip cache and this parent. They can be changed; what the tip cache means stays.
+    /// The coins of the block view, over the tip cache and this parent. They can be changed; what the tip cache means stays. The
+    /// block view has to stand over the tip cache, as an empty one does.
     pub fn block_view<'a, V: View>(&'a mut self, under: &'a mut V) -> BlockView<'a, V>
-        requires { LayersStand self.old (V.coins under.old) }
+        requires { StandsOver (block_of self.old) (tip_means self.old (V.coins under.old)) }
         ensures same_references { (result.layers.ghost_name ≡ self.entry.ghost_name) × (result.under.ghost_name ≡ under.entry.ghost_name) }
         ensures values { (result.layers.now ≡ self.old) × (result.under.now ≡ under.old) }
     {
@@ -71,6 +72,7 @@ impl Layers {
     pub fn drop_top(&mut self)
         ensures tip { tip_of self.new ≡ tip_of self.old }
         ensures block { block_of self.new ≡ emptied (block_of self.old) }
+        ensures over_tip { (told : Option Coins) → StandsOver (block_of self.new) (tip_means self.new told) }
         ensures coins { (told : Option Coins) → (block_means self.new told ≡ tip_means self.old told) × (StandsOver (tip_of self.old) told → LayersStand self.new told) }
     {
         self.block.clear();
@@ -98,7 +100,7 @@ impl Layers {
         ensures fits { IfOk result (λ coin. IfSome coin CoinFits) }
         ensures coins { block_means self.new (V.coins under.new) ≡ block_means self.old (V.coins under.old) }
         ensures parent { V.coins under.new ≡ V.coins under.old }
-        ensures stands { LayersStand self.old (V.coins under.old) → LayersStand self.new (V.coins under.new) }
+        ensures over_tip { StandsOver (block_of self.old) (tip_means self.old (V.coins under.old)) → StandsOver (block_of self.new) (tip_means self.new (V.coins under.new)) }
         ensures grows { (keys : List OutPoint) → Contains keys key.now → LayersGrow keys self.old self.new (V.coins under.old) (V.coins under.new) }
         ensures cause { FindsFault 1 (layers_count self.old (V.counts under.old)) (layers_count self.new (V.counts under.new)) result }
         ensures behind { (keys : List OutPoint) → Contains keys key.now → V.behind keys under.old under.new }
@@ -117,7 +119,7 @@ impl Layers {
         requires { CoinFits coin }
         ensures tip { tip_of self.new ≡ tip_of self.old }
         ensures coins { (told : Option Coins) → block_means self.new told ≡ option_map (with_coin result key.now coin) (block_means self.old told) }
-        ensures stands { (told : Option Coins) → (may_overwrite ≡ false → HasNoCoin (block_means self.old told) key.now) → LayersStand self.old told → LayersStand self.new told }
+        ensures over_tip { (told : Option Coins) → (may_overwrite ≡ false → HasNoCoin (block_means self.old told) key.now) → StandsOver (block_of self.old) (tip_means self.old told) → StandsOver (block_of self.new) (tip_means self.new told) }
         ensures grows { (keys : List OutPoint) (told : Option Coins) → Contains keys key.now → LayersGrow keys self.old self.new told told }
         ensures cause { (counts : ViewCounts) → FindsFault 1 (layers_count self.old counts) (layers_count self.new counts) result }
     {
@@ -132,9 +134,9 @@ impl Layers {
     ) -> Result<Option<Coin>, StoreFault>
         ensures coin { AnswersCoin (block_means self.old (V.coins under.old)) key.now result }
         ensures fits { IfOk result (λ coin. IfSome coin CoinFits) }
-        ensures coins { LayersStand self.old (V.coins under.old) → block_means self.new (V.coins under.new) ≡ option_map (without_coin result key.now) (block_means self.old (V.coins under.old)) }
+        ensures coins { StandsOver (block_of self.old) (tip_means self.old (V.coins under.old)) → block_means self.new (V.coins under.new) ≡ option_map (without_coin result key.now) (block_means self.old (V.coins under.old)) }
         ensures parent { V.coins under.new ≡ V.coins under.old }
-        ensures stands { LayersStand self.old (V.coins under.old) → LayersStand self.new (V.coins under.new) }
+        ensures over_tip { StandsOver (block_of self.old) (tip_means self.old (V.coins under.old)) → StandsOver (block_of self.new) (tip_means self.new (V.coins under.new)) }
         ensures grows { (keys : List OutPoint) → Contains keys key.now → LayersGrow keys self.old self.new (V.coins under.old) (V.coins under.new) }
         ensures cause { FindsFault 1 (layers_count self.old (V.counts under.old)) (layers_count self.new (V.counts under.new)) result }
         ensures behind { (keys : List OutPoint) → Contains keys key.now → V.behind keys under.old under.new }

@@ -6,25 +6,25 @@ ghost use Rattle.base_types.specs.Views.{FindsFault};
 ghost use Rattle.base_types.specs.declared.hash.OutPoint.{OutPoint as Key};
 ghost use Rattle.base_types.specs.declared.refused.CoinRefused.{CoinRefused as Rule};
 ghost use Rattle.chain_model.specs.Apply.{outcome, undo_of};
-ghost use Rattle.chain_model.specs.Connecting.{Leads, OnRefusal, RefusedFor, asked_by, calls_of, store_part};
+ghost use Rattle.chain_model.specs.Connecting.{IsPayable, Leads, OnRefusal, RefusedFor, asked_by, calls_of, store_part};
 ghost use Rattle.chain_model.specs.Editing.{Among, EditsOnly};
 ghost use Rattle.chain_model.specs.Laws.{named_by};
-ghost use Rattle.chain_model.specs.Standing.{Stands};
 
 use base_types::CoinEdit;
 use block_codec::HashedBlock;
 use chain_model::{BlockUndo, ConnectFault, TreeView, apply_over};
 use std::alloc::Global;
 
-/// Applies a block that stands in a tree to coins, and answers what it spends. `Refused` has the first rule that it breaks. The
-/// coins may hold part of the block then, as they may after a fault of the store.
+/// Applies a block to coins, and answers what it spends. Its transactions have to be such as a body that breaks no rule has.
+/// `Refused` has the first rule that it breaks. The coins may hold part of the block then, as they may after a fault of the
+/// store.
 pub fn connect<E: CoinEdit, T: TreeView>(
     alloc: Global,
     coins: &mut E,
     tree: &T,
     block: &HashedBlock,
 ) -> Result<BlockUndo, ConnectFault>
-    requires { Stands (T.tree tree.now) block.now }
+    requires { All IsPayable block.now.txs }
 
     // The coins after the block and what it spent, or the rule that it breaks, and the other way round.
     ensures ok { IfOk result (λ _. Leads (λ before. outcome (T.tree tree.now) before block.now) (E.coins coins.old) (E.coins coins.new)) }

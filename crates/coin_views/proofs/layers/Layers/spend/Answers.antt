@@ -3,7 +3,7 @@ use Rattle.std.specs.Prelude.{option_map}
 use Rattle.base_types.specs.Views.{ViewCounts, FindsFault, without_coin}
 use Rattle.coin_cache.specs.Entries.{StandsOver, counts_over, means}
 use Rattle.coin_views.specs.Growth.{MayFetch}
-use Rattle.coin_views.proofs.Commits.{stand_through}
+use Rattle.coin_views.proofs.Commits.{block_through, tip_through}
 use Rattle.coin_views.proofs.layers.Layers.spend.Goals as goal
 
 pub shape_of-self : goal.shape_of-self
@@ -15,7 +15,7 @@ returns-clause-coins g c =
     let e : c.under-1.given.0 ≡ c.spend.new.under.under.now = search rules in
     let coins = g.V.View.coins in
     ap (λ u. means c.spend.new.self (means c.spend.new.under.cache.now (coins u))) e
-    ∙ c.spend.ensures.coins (subst (StandsOver c.args.self.now.block) (λ i. means (sym v.0 i) (coins (sym v.1 i))) h.over_tip)
+    ∙ c.spend.ensures.coins (subst (StandsOver c.args.self.now.block) (λ i. means (sym v.0 i) (coins (sym v.1 i))) h)
     ∙ (λ i. option_map (without_coin c.spend.result c.args.key.now) (means c.args.self.now.block (means (v.0 i) (coins (v.1 i)))))
 
 pub returns-clause-parent : goal.returns-clause-parent
@@ -24,21 +24,22 @@ returns-clause-parent g c =
     let e : c.under-1.given.0 ≡ c.spend.new.under.under.now = search rules in
     ap g.V.View.coins e ∙ b.2 ∙ ap g.V.View.coins v.1
 
-pub returns-clause-stands : goal.returns-clause-stands
-returns-clause-stands g c =
+pub returns-clause-over_tip : goal.returns-clause-over_tip
+returns-clause-over_tip g c =
     let b = c.spend.ensures.behind (c.args.key.now ∷ []) (0, omega arith, refl) in let n = b.1 in let r = c.new-below.ensures.same_references.1 in let f = c.under-1.given.1 in let v = c.new-below.ensures.values in
     let e : c.under-1.given.0 ≡ c.spend.new.under.under.now = search rules in
     let coins = g.V.View.coins in let old = c.new-below.result in let new = c.spend.new.under in
-    stand_through c.args.self.now (record { tip = new.cache.now; block = c.spend.new.self }) (coins c.args.under.now) (coins c.under-1.given.0) old.cache.now (coins old.under.now) (coins new.under.now) v.0 (ap coins v.1) (ap coins e) b.3 c.spend.ensures.stands
+    block_through c.args.self.now (record { tip = new.cache.now; block = c.spend.new.self }) (coins c.args.under.now) (coins c.under-1.given.0) old.cache.now (coins old.under.now) (coins new.under.now) v.0 (ap coins v.1) (ap coins e) c.spend.ensures.stands
 
 pub returns-clause-grows : goal.returns-clause-grows
 returns-clause-grows g c keys named =
     let b = c.spend.ensures.behind (c.args.key.now ∷ []) (0, omega arith, refl) in let n = b.1 in let r = c.new-below.ensures.same_references.1 in let f = c.under-1.given.1 in let v = c.new-below.ensures.values in
     let e : c.under-1.given.0 ≡ c.spend.new.under.under.now = search rules in
-    let coins = g.V.View.coins in let new = c.spend.new.under in let all = c.spend.ensures.behind keys named in record {
+    let coins = g.V.View.coins in let old = c.new-below.result in let new = c.spend.new.under in let all = c.spend.ensures.behind keys named in record {
       tip = subst (λ k. MayFetch keys k new.cache.now) v.0 all.4;
       block = record { adds = c.spend.ensures.entries keys named; salt = c.spend.ensures.one.salt };
       means = ap (λ u. means new.cache.now (coins u)) e ∙ c.spend.ensures.parent ∙ (λ i. means (v.0 i) (coins (v.1 i)));
+      stands = tip_through c.args.self.now (record { tip = new.cache.now; block = c.spend.new.self }) (coins c.args.under.now) (coins c.under-1.given.0) old.cache.now (coins old.under.now) (coins new.under.now) v.0 (ap coins v.1) (ap coins e) b.3;
     }
 
 pub returns-clause-cause : goal.returns-clause-cause

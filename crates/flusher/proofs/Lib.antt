@@ -1,0 +1,9 @@
+pub mod Begins
+pub mod Ends
+pub mod Made
+pub mod Meant
+pub mod Moved
+pub mod Rows
+pub mod Staged
+pub mod Unwritten
+pub mod Walk

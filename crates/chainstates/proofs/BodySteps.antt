@@ -13,7 +13,7 @@ use Rattle.block_store.specs.OpenStore.{OpenStore}
 use Rattle.chain_model.specs.Tree.{Tree}
 use Rattle.chainstates.proofs.Gates.{both_true, same_value}
 use Rattle.chainstates.specs.Reading.{HasBodies, bodies_in, hash_of_body}
-use Rattle.store_state.specs.State.{Record, StoredBody, stored_body, and_payload, each_of, each_passes, gated, is_in, said, body_file}
+use Rattle.store_state.specs.State.{Read, Record, StoredBody, stored_body, and_payload, each_of, each_passes, gated, is_in, said, body_file}
 use Rattle.store_state.proofs.ReadingSteps.{goes_on, stops, none_each, more_each, none_passes, more_pass, first_fails, later_fails}
 
 abbrev knows : Tree → StoredBody → Bool
@@ -46,6 +46,15 @@ hashes_stored at (payload ∷ payloads) [] e = absurd cc
 hashes_stored at (payload ∷ payloads) (hash ∷ hashes) e =
     let rest : map body_hash payloads ≡ map carried hashes = cc in
     ap (λ (l : List Hash32). hash ∷ l) (hashes_stored (at + (5 + length payload)) payloads hashes rest)
+
+-- the bodies that are read of payloads carry these hashes
+pub names_read : (payloads : List (List ℕ)) (hashes : List Hash32) (known : List (Record StoredBody)) → each_of body_file stored_body (gated 0 payloads) ≡ Ok known → map body_hash payloads ≡ map carried hashes → map hash_of_body (said known) ≡ hashes
+names_read payloads hashes known read e =
+    let same = same_read known (stored_at 0 payloads hashes) (sym read ∙ each_stored 0 payloads hashes e) in
+    ap (λ (l : List (Record StoredBody)). map hash_of_body (said l)) same ∙ hashes_stored 0 payloads hashes e
+  where
+    same_read : (a b : List (Record StoredBody)) → (let x : Read (List (Record StoredBody)) = Ok a in x) ≡ Ok b → a ≡ b
+    same_read a b e = cc
 
 all_known : (tree : Tree) (at : ℕ) (payloads : List (List ℕ)) (hashes : List Hash32) → list_all (is_in tree) hashes ≡ true → each_passes body_file (knows tree) (stored_at at payloads hashes) ≡ Ok (stored_at at payloads hashes)
 unfolding stored_at

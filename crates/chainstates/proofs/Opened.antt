@@ -13,12 +13,17 @@ use Rattle.block_store.specs.OpenStore.{OpenStore, Payloads}
 use Rattle.block_store.proofs.StoreLaws.{quiet_holds}
 use Rattle.chain_model.specs.Choice.{coins_at}
 use Rattle.chain_model.specs.Tree.{Tree}
+use Rattle.chain_state.specs.Standing.{Carry}
+use Rattle.chain_state.specs.Waiting.{waits}
 use Rattle.chainstates.specs.Opening.{HasOpened, SameLogs, store_in, store_of}
-use Rattle.chainstates.specs.Standing.{Carry, OpensSession}
+use Rattle.chainstates.specs.Standing.{OpensSession}
+use Rattle.chainstates.specs.Waits.{is_left_over}
 use Rattle.chainstates.specs.declared.session.Session.{Session}
 use Rattle.chainstates.proofs.Breaks.{store_is}
 use Rattle.chainstates.proofs.Entries.{coins_quiet, leaves_read}
 use Rattle.chainstates.proofs.Leaving.{opening_opens}
+use Rattle.chainstates.proofs.StoredBlocks.{named_by}
+use Rattle.chainstates.proofs.WaitSteps.{begins_waiting}
 use Rattle.coin_store.specs.Batches.{Batch}
 use Rattle.coin_store.specs.Store as coins
 use Rattle.coin_store.specs.Store.{texts}
@@ -32,9 +37,9 @@ use Rattle.coin_views.specs.declared.layers.Layers.{Layers}
 use Rattle.machine.specs.State.{active_coins, begins}
 use Rattle.store_state.specs.Settled.{IsReplay, IsSettled}
 use Rattle.store_state.specs.State.{StoreState, StoredBody, Chainstate, choice_of, marker_after, state_of, tip_of_marker, first_rules}
-use Rattle.store_state.proofs.Appending.{HasLogs}
+use Rattle.store_state.proofs.Appending.{HasLogs, tree_is_read}
 use Rattle.store_writes.specs.OnDisk.{OnDisk}
-use Rattle.store_writes.proofs.Images.{logs_of, holds_logs}
+use Rattle.store_writes.proofs.Images.{all_read, logs_of, holds_logs}
 
 -- ---- the marker
 
@@ -89,11 +94,13 @@ module _ {D : Type 0} (time : D → ℕ) (left : D → ℕ → Image → Type 0)
   after : Image
   after = here.headers.holds.image
 
-  pub opens_session : (session : Session) → session.tree.tree ≡ tree → session.tree.limit ≡ limit → session.blocks ≡ open_blocks → session.coins ≡ open_coins → session.tip ≡ tip_of_marker (coins.marker_after open_coins.start has.rows.batches)
-      → (layers.tip_of session.layers).slots ≡ empty → (block_of session.layers).slots ≡ empty
+  pub opens_session : (session : Session) → session.shared.tree.tree ≡ tree → session.shared.tree.limit ≡ limit → session.shared.blocks ≡ open_blocks → session.active.store ≡ open_coins
+      → session.active.tip ≡ tip_of_marker (coins.marker_after open_coins.start has.rows.batches)
+      → (layers.tip_of session.active.layers).slots ≡ empty → (block_of session.active.layers).slots ≡ empty
+      → ((parent hash : Hash32) → waits session.active.waiting parent hash ≡ is_left_over tree.headers open_blocks.hashes session.active.tip parent hash)
       → OpensSession limit (left old) (left new) (time old) (time new) before (contents new) session
   unfolding store
-  opens_session session is_tree most is_blocks is_coins is_tip bottom top =
+  opens_session session is_tree most is_blocks is_coins is_tip bottom top are =
       let told : contents new ≡ Some here.headers.holds.image = here.headers.holds.told in
       let first = stands_for before (record { headers = has.headers; bodies = has.bodies; coins = has.rows.rows }) in
       let files : OnDisk limit (contents new) (left new (time new)) open_blocks open_coins store = record {
@@ -108,6 +115,7 @@ module _ {D : Type 0} (time : D → ℕ) (left : D → ℕ → Image → Type 0)
         mask = has.rows.mask;
         no_base = has.rows.no_base;
       } in
+      let at = is_tip ∙ ap tip_of_marker (ap (λ (m : Marker). coins.marker_after m has.rows.batches) has.rows.start ∙ same_marker genesis_hash has.rows.batches) in
       record {
         after = here.headers.holds.image;
         told = told;
@@ -115,16 +123,22 @@ module _ {D : Type 0} (time : D → ℕ) (left : D → ℕ → Image → Type 0)
         opening = opening_opens time left contents earlier reads_as limit first_rules old new (leaves_read time left contents earlier old mid new same quiet) before here.headers.holds.image store was told first;
         is_open = files.is_open;
         stands = record {
-          files = subst (λ (c : CoinStore). OnDisk limit (contents new) (left new (time new)) session.blocks c store) (sym is_coins) (subst (λ (b : OpenStore). OnDisk limit (contents new) (left new (time new)) b open_coins store) (sym is_blocks) files);
+          files = subst (λ (c : CoinStore). OnDisk limit (contents new) (left new (time new)) session.shared.blocks c store) (sym is_coins) (subst (λ (b : OpenStore). OnDisk limit (contents new) (left new (time new)) b open_coins store) (sym is_blocks) files);
           headers = is_tree;
           most = most;
+          grown = tree_is_read limit first_rules (logs_of has.payloads has.rows.batches) store (all_read limit (contents new) (left new (time new)) open_blocks open_coins store files);
           tree = refl;
           bodies = refl;
           start = refl;
           start_coins = refl;
           kept = refl;
-          tip = is_tip ∙ ap tip_of_marker (ap (λ (m : Marker). coins.marker_after m has.rows.batches) has.rows.start ∙ same_marker genesis_hash has.rows.batches);
+          tip = at;
+          begun = ap (λ (c : CoinStore). c.start) is_coins ∙ has.rows.start;
           role = refl;
-          coins = λ settled. carries_rows session.layers store bottom top settled;
+          coins = λ settled. record {
+            valid = replay_here store store.active store.active.marker settled.rows ∙ ap (λ (c : Coins). Some c) (sym (begins_with_rows store settled));
+            carry = carries_rows session.active.layers store bottom top settled;
+            waiting = begins_waiting store settled open_blocks.hashes (named_by limit (contents new) (left new (time new)) open_blocks open_coins store files) session.active.waiting session.active.tip at are;
+          };
         };
       }

@@ -1,5 +1,5 @@
 -- The way down from a tip, body by body.
-use Rattle.std.proofs.Common.{◌≡◌, ℕ, zero, suc, ◌&&◌, ◌||◌, not, Bool, true, false, List, [], ◌∷◌, map, reverse, Option, Some, None, refl, sym, ap, ◌∙◌, cond}
+use Rattle.std.proofs.Common.{◌≡◌, ℕ, zero, suc, ◌&&◌, ◌||◌, not, Bool, true, false, List, [], ◌∷◌, map, reverse, Option, Some, None, refl, sym, ap, ◌∙◌, cond, ◌+◌, ◌-◌, ◌<◌, arith}
 use Rattle.std.specs.Prelude.{take_while, is_some, slice_get}
 use Rattle.std.specs.List.{list_all, list_any}
 use Rattle.std.specs.FinMap.{get, len}
@@ -127,14 +127,24 @@ module _ (tree : Tree) (bodies : List StoredBody) (tip hash : Hash32) (left k : 
       → reached_along bodies (chain_within (len tree.headers) tree.headers tip) ≡ reached_along bodies (chain_within k tree.headers header.prev)
   further_down apart header found stored = on_way ∙ goes_down bodies tree.headers k hash apart header found stored
 
+-- so many steps are left, one of which is this one
+pub one_less : (size step all : ℕ) → all ≡ size → step < all → size - step ≡ suc (size - (step + 1))
+one_less size step all is less = omega (arith, is, less)
+
+pub not_genesis : (hash genesis : Hash32) → genesis ≡ genesis_hash → false ≡ same_hash hash genesis → hash ≡ genesis_hash → ⊥
+not_genesis hash genesis is apart here =
+    let same : same_hash hash genesis ≡ true = ap (same_hash hash) (is ∙ sym here) ∙ same_self hash in
+    cc
+
+-- the hashes that records carry
+pub record_named : (bodies : List StoredBody) (hash : Hash32) → has_record bodies hash ≡ list_any (λ (one : Hash32). same_hash one hash) (map hash_of_body bodies)
+record_named [] hash = refl
+record_named (body ∷ bodies) hash = ap (λ (b : Bool). same_hash body.hash hash || b) (record_named bodies hash)
+
 -- the hash that records carry is among theirs
 pub record_there : (bodies : List StoredBody) (hashes : List Hash32) (hash : Hash32) → map hash_of_body bodies ≡ hashes → has_record bodies hash ≡ is_some (last_place hashes hash)
 record_there bodies hashes hash e = by_last (last_place hashes hash) refl
   where
-    from : (all : List StoredBody) (h : Hash32) → has_record all h ≡ list_any (λ (one : Hash32). same_hash one h) (map hash_of_body all)
-    from [] h = refl
-    from (body ∷ all) h = ap (λ (b : Bool). same_hash body.hash h || b) (from all h)
-
     any_at : (all : List Hash32) (n : ℕ) → slice_get all n ≡ Some hash → list_any (λ (one : Hash32). same_hash one hash) all ≡ true
     any_at [] n there = absurd cc
     any_at (one ∷ all) zero there = ap (λ (b : Bool). b || list_any (λ (other : Hash32). same_hash other hash) all) (ap (λ (h : Hash32). same_hash h hash) (same_value one hash there) ∙ same_self hash)
@@ -150,5 +160,5 @@ record_there bodies hashes hash e = by_last (last_place hashes hash) refl
     never_later none n there = let later = last_later hashes hash n there in let never : None ≡ Some later.0 = sym none ∙ later.1 in cc
 
     by_last : (o : Option ℕ) → last_place hashes hash ≡ o → has_record bodies hash ≡ is_some (last_place hashes hash)
-    by_last None none = from bodies hash ∙ ap (list_any (λ (one : Hash32). same_hash one hash)) e ∙ none_of hashes (never_later none) ∙ sym (ap is_some none)
-    by_last (Some n) is = from bodies hash ∙ ap (list_any (λ (one : Hash32). same_hash one hash)) e ∙ any_at hashes n (last_is hashes hash n is) ∙ sym (ap is_some is)
+    by_last None none = record_named bodies hash ∙ ap (list_any (λ (one : Hash32). same_hash one hash)) e ∙ none_of hashes (never_later none) ∙ sym (ap is_some none)
+    by_last (Some n) is = record_named bodies hash ∙ ap (list_any (λ (one : Hash32). same_hash one hash)) e ∙ any_at hashes n (last_is hashes hash n is) ∙ sym (ap is_some is)

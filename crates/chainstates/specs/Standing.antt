@@ -1,40 +1,19 @@
 -- Where an open store stands.
-use Rattle.std.specs.Prelude.{◌≡◌, ℕ, [], Option, Some}
-use Rattle.std.specs.FinMap.{empty}
-use Rattle.disk_model.specs.Disk.{Image}
-use Rattle.base_types.specs.Coins.{Coins}
+use Rattle.std.specs.Prelude.{⊤, ◌≡◌, ℕ, [], Option, Some}
+use Rattle.std.specs.FinMap.{get}
+use Rattle.disk_model.specs.Disk.{Image, Rose}
+use Rattle.base_types.specs.declared.coin.Coin.{Coin}
+use Rattle.base_types.specs.declared.fault.StoreFault.{StoreFault}
+use Rattle.base_types.specs.declared.fault.StoreFault.TheVariants.{NoMemory, DiskFailed, Damaged, Full, CacheFull}
+use Rattle.base_types.specs.declared.hash.OutPoint.{OutPoint}
 use Rattle.base_types.specs.declared.program.Limits.{Limits}
 use Rattle.base_types.specs.declared.program.Salt.{Salt}
+use Rattle.chain_state.specs.Standing.{IsStanding}
 use Rattle.chainstates.specs.declared.session.Session.{Session}
-use Rattle.coin_views.specs.Layers.{LayersStand, block_of, tip_means}
-use Rattle.coin_views.specs.declared.layers.Layers.{Layers}
 use Rattle.machine.specs.Calls.{IsOpening, IsOpen}
 use Rattle.machine.specs.State.{State, active_coins, begins}
-use Rattle.store_state.specs.Roles.{Alone}
-use Rattle.store_state.specs.Settled.{IsSettled}
-use Rattle.store_state.specs.State.{StoreState, blocks_in, tip_of, first_rules}
-use Rattle.store_writes.specs.OnDisk.{OnDisk}
-
--- the tip cache, laid over the coins of the rows, means these coins, and nothing stands over it
-pub record Carry (layers : Layers) (rows coins : Coins) : Type 0 where
-  pub stand : LayersStand layers (Some rows)
-  pub tip : tip_means layers (Some rows) ≡ Some coins
-  pub top : (block_of layers).slots ≡ empty
-
--- The files are those of a store, as each image stands for it, and the machine stands on it: with its tree and bodies, at the
--- session's tip, with the coins of replaying the blocks to it.
-pub record IsStanding (limit : ℕ) (contents : Option Image) (images : Image → Type 0) (session : Session) (state : State) (store : StoreState) : Type 0 where
-  pub files : OnDisk limit contents images session.blocks session.coins store
-  pub headers : session.tree.tree ≡ store.tree
-  pub most : session.tree.limit ≡ limit
-  pub tree : state.tree ≡ store.tree
-  pub bodies : state.bodies ≡ blocks_in empty store.bodies
-  pub start : state.active.start ≡ store.active.start
-  pub start_coins : state.active.start_coins ≡ store.active.start_coins
-  pub kept : state.active.kept ≡ tip_of store.active
-  pub tip : session.tip ≡ state.active.tip
-  pub role : state.role ≡ Alone
-  pub coins : IsSettled store → Carry session.layers store.active.coins (active_coins state)
+use Rattle.machine.specs.Steps.{asked}
+use Rattle.store_state.specs.State.{StoreState, header_file, body_file, coin_file, first_rules}
 
 -- the store was opened: the machine begins with what the contents stand for
 pub record OpensSession (limit : ℕ) (past left : ℕ → Image → Type 0) (entered ended : ℕ) (contents : Image) (now : Option Image) (session : Session) : Type 0 where
@@ -43,12 +22,45 @@ pub record OpensSession (limit : ℕ) (past left : ℕ → Image → Type 0) (en
   pub store : StoreState
   pub opening : IsOpening limit first_rules past left (record { entered = entered; ended = ended; contents = contents; after = after; flushes = []; events = [] }) store store
   pub is_open : IsOpen limit first_rules (left ended) after store
-  pub stands : IsStanding limit now (left ended) session (begins store) store
+  pub stands : IsStanding limit now (left ended) session.shared session.active (begins store) store
 
 -- what the store was opened with
 pub record IsSetTo (limits : Limits) (salt : Salt) (session : Session) : Type 0 where
-  pub headers : session.tree.limit ≡ limits.headers
-  pub header_bytes : session.blocks.headers.limit ≡ limits.file_bytes
-  pub body_bytes : session.blocks.bodies.limit ≡ limits.file_bytes
-  pub coin_bytes : session.coins.log.limit ≡ limits.file_bytes
-  pub spread : session.coins.index.salt ≡ salt
+  pub headers : session.shared.tree.limit ≡ limits.headers
+  pub header_bytes : session.shared.blocks.headers.limit ≡ limits.file_bytes
+  pub body_bytes : session.shared.blocks.bodies.limit ≡ limits.file_bytes
+  pub coin_bytes : session.active.store.log.limit ≡ limits.file_bytes
+  pub spread : session.active.store.index.salt ≡ salt
+
+-- what it was opened with stays
+pub record KeepsSettings (old new : Session) : Type 0 where
+  pub headers : new.shared.tree.limit ≡ old.shared.tree.limit
+  pub header_bytes : new.shared.blocks.headers.limit ≡ old.shared.blocks.headers.limit
+  pub body_bytes : new.shared.blocks.bodies.limit ≡ old.shared.blocks.bodies.limit
+  pub coin_bytes : new.active.store.log.limit ≡ old.active.store.log.limit
+  pub spread : new.active.store.index.salt ≡ old.active.store.index.salt
+
+-- its files are those of a store
+pub record HasStoreFiles (session : Session) : Type 0 where
+  pub headers : session.shared.blocks.headers.file ≡ header_file
+  pub bodies : session.shared.blocks.bodies.file ≡ body_file
+  pub coins : session.active.store.log.file ≡ coin_file
+
+-- and they stay those that were opened
+pub record KeepsFiles (old new : Session) : Type 0 where
+  pub headers : new.shared.blocks.headers.file ≡ old.shared.blocks.headers.file
+  pub bodies : new.shared.blocks.bodies.file ≡ old.shared.blocks.bodies.file
+  pub coins : new.active.store.log.file ≡ old.active.store.log.file
+
+-- an outpoint was asked for at the tip
+pub record HasAnswered (limit : ℕ) (contents : Option Image) (images : Image → Type 0) (session : Session) (state : State) (store : StoreState) (key : OutPoint) (answer : Option Coin) : Type 0 where
+  pub coin : answer ≡ get (active_coins state) key
+  pub stands : IsStanding limit contents images session.shared session.active (asked state key).state store
+
+-- why a coin may not be read: its row is broken
+abbrev pub CoinFails : ℕ → ℕ → StoreFault → Type 0
+CoinFails before now NoMemory = ⊤
+CoinFails before now DiskFailed = Rose before now
+CoinFails before now (Damaged file at) = file ≡ coin_file
+CoinFails before now (Full file) = ⊥
+CoinFails before now CacheFull = ⊥

@@ -8,7 +8,7 @@ ghost use Rattle.coin_store.specs.Batches.{Batch};
 ghost use Rattle.coin_store.specs.Files.{InFiles, IsOneOf, IsTiny, OthersKeptBut};
 ghost use Rattle.coin_store.specs.Store.{Knows};
 ghost use Rattle.disk_model.specs.Disk.{Leaves, Quiet};
-ghost use Rattle.store_state.specs.State.{StoredBody, coin_file, first_key};
+ghost use Rattle.store_state.specs.State.{StoredBody, coin_file, first_key, header_file, body_file};
 
 use crate::checks::{COIN_FILE, check_batches, check_bodies};
 use crate::tree_reading::read_tree;
@@ -35,6 +35,7 @@ pub(crate) fn open_files<D: Disk>(
         → IfOk result (λ files. HasOpened contents (D.contents disk.new) (D.left_since disk.new (D.time disk.new)) files.0 files.1) }
     ensures damaged { (contents : ℕ → List ℕ) → D.contents disk.old ≡ Some contents → IfErr result (λ fault. (limit : ℕ) → BreaksIn limit contents fault) }
     ensures set { IfOk result (λ files. (files.0.headers.limit ≡ limits.now.file_bytes) × (files.0.bodies.limit ≡ limits.now.file_bytes) × (files.1.log.limit ≡ limits.now.file_bytes) × (files.1.index.salt ≡ salt.now)) }
+    ensures named { IfOk result (λ files. (files.0.headers.file ≡ header_file) × (files.0.bodies.file ≡ body_file) × (files.1.log.file ≡ coin_file)) }
     ensures same { (contents : ℕ → List ℕ) → D.contents disk.old ≡ Some contents → Leaves D.time D.left_since SameLogs disk.old disk.new }
     ensures cause { IfErr result (OpenFault (D.faults disk.old) (D.faults disk.new)) }
     ensures faults { D.faults disk.old ≤ D.faults disk.new }
@@ -61,6 +62,7 @@ fn open_coins<D: Disk>(
         → IfOk result (λ coins. HasOpenedCoins contents (D.contents disk.new) (D.left_since disk.new (D.time disk.new)) coins) }
     ensures damaged { (contents : ℕ → List ℕ) → D.contents disk.old ≡ Some contents → IfErr result (IsCoinDamage (contents coin_file)) }
     ensures set { IfOk result (λ coins. (coins.log.limit ≡ limits.now.file_bytes) × (coins.index.salt ≡ salt.now)) }
+    ensures named { IfOk result (λ coins. coins.log.file ≡ coin_file) }
     ensures any_moment { (contents : ℕ → List ℕ) → D.contents disk.old ≡ Some contents → Leaves D.time D.left_since (InFiles (IsTiny (IsOneOf None coin_file) contents) SameLog) disk.old disk.new }
     ensures others { OthersKeptBut (IsOneOf None coin_file) (D.contents disk.old) (D.contents disk.new) }
     ensures cause { IfErr result (OpenFault (D.faults disk.old) (D.faults disk.new)) }

@@ -4,28 +4,24 @@ ghost use Rattle.std.specs.Prelude.{◌≡◌, ◌≤◌, ◌^◌, ℕ, List, tr
 ghost use Rattle.std.specs.FinMap as finite;
 ghost use Rattle.chain_model.specs.Tree.{height as height_of};
 ghost use Rattle.chainstates.specs.Opening.{BreaksIn, OpenFault};
-ghost use Rattle.chainstates.specs.Standing.{OpensSession, IsSetTo};
+ghost use Rattle.chainstates.specs.Standing.{HasStoreFiles, OpensSession, IsSetTo};
 ghost use Rattle.machine.specs.Calls.{FailsToOpen};
 ghost use Rattle.store_state.specs.State.{first_rules};
 
 use crate::checks::tip_of;
 use crate::opening::{open_files, read_files};
+use crate::waiting::find_waiting;
 use base_types::{Hash32, Limits, Salt, StoreFault};
-use block_store::BlockStore;
-use coin_store::CoinStore;
+use chain_state::{ChainState, Shared};
 use coin_views::Layers;
 use disk_model::Disk;
-use header_tree::Tree;
-use std::alloc::Global;
+use std::alloc::{AllocError, Global};
 
-/// A store that is open: the tree of its headers, its files, and the coins at the tip as a cache over those of its rows.
+/// A store that is open: its headers and bodies, and its chainstate.
 #[derive(Drop)]
 pub struct Session {
-    tree: Tree,
-    blocks: BlockStore,
-    coins: CoinStore,
-    layers: Layers,
-    tip: Hash32,
+    pub(crate) shared: Shared,
+    pub(crate) active: ChainState,
 }
 
 /// What is told of an open store: the number of its headers, the height of its tip, and the tip.
@@ -52,6 +48,7 @@ impl Session {
             → OnErr result (FailsToOpen limits.now.headers first_rules (D.left_since disk.old) (D.left_since disk.new) (D.time disk.old) (D.time disk.new)) }
         ensures damaged { (contents : ℕ → List ℕ) → D.contents disk.old ≡ Some contents → IfErr result (BreaksIn limits.now.headers contents) }
         ensures set { IfOk result (IsSetTo limits.now salt.now) }
+        ensures named { IfOk result HasStoreFiles }
         ensures cause { IfErr result (OpenFault (D.faults disk.old) (D.faults disk.new)) }
         ensures faults { D.faults disk.old ≤ D.faults disk.new }
     {
@@ -59,28 +56,37 @@ impl Session {
             Ok(files) => files,
             Err(fault) => return Err(fault),
         };
-        match read_files(alloc, disk, limits, &blocks, &coins) {
-            Ok(tree) => Ok(Session {
-                tip: tip_of(&coins.marker()),
-                tree,
-                blocks,
-                coins,
-                layers: Layers::new(alloc, salt),
+        let tree = match read_files(alloc, disk, limits, &blocks, &coins) {
+            Ok(tree) => tree,
+            Err(fault) => return Err(fault),
+        };
+        let tip = tip_of(&coins.marker());
+        match find_waiting(alloc, &blocks, &tree, &tip) {
+            Ok(waiting) => Ok(Session {
+                shared: Shared { tree, blocks },
+                active: ChainState {
+                    tip,
+                    store: coins,
+                    layers: Layers::new(alloc, salt),
+                    waiting,
+                },
             }),
-            Err(fault) => Err(fault),
+            Err(AllocError) => Err(StoreFault::NoMemory),
         }
     }
 
     /// What is told of it. It takes no memory.
     pub fn info(&self) -> Info
-        ensures headers { result.headers ≡ finite.len self.now.tree.tree.headers }
-        ensures height { finite.contains_key self.now.tree.tree.headers self.now.tip ≡ true → result.height ≡ height_of self.now.tree.tree.headers self.now.tip }
-        ensures tip { result.tip ≡ self.now.tip }
+        ensures headers { result.headers ≡ finite.len self.now.shared.tree.tree.headers }
+        ensures height { finite.contains_key self.now.shared.tree.tree.headers self.now.active.tip ≡ true → result.height ≡ height_of self.now.shared.tree.tree.headers self.now.active.tip }
+        ensures tip { result.tip ≡ self.now.active.tip }
     {
+        let tree = &self.shared.tree;
+        let tip = self.active.tip;
         Info {
-            headers: self.tree.size(),
-            height: self.tree.height(&self.tip).unwrap_or(0),
-            tip: self.tip,
+            headers: tree.size(),
+            height: tree.height(&tip).unwrap_or(0),
+            tip,
         }
     }
 }

@@ -1,20 +1,8 @@
-use Rattle.std.proofs.Common.{◌≡◌, ◌∙◌, ◌+◌, ◌-◌, ◌<◌, ℕ, ap, arith, false, suc, sym, true}
+use Rattle.std.proofs.Common.{◌≡◌, ◌∙◌, ◌+◌, ◌-◌, arith, sym}
 use Rattle.std.specs.FinMap.{len}
-use Rattle.block_codec.specs.Text.{same_hash}
-use Rattle.block_codec.specs.Genesis.{genesis_hash}
-use Rattle.base_types.specs.declared.hash.Hash32.{Hash32}
-use Rattle.chain_model.proofs.Hashes.{same_self, same_true}
-use Rattle.chainstates.proofs.ReachSteps.{at_genesis, at_unknown, at_unstored, came_to_end, further_down, record_there}
+use Rattle.chain_model.proofs.Hashes.{same_true}
+use Rattle.chainstates.proofs.ReachSteps.{at_genesis, at_unknown, at_unstored, came_to_end, further_down, not_genesis, one_less, record_there}
 use Rattle.chainstates.proofs.checks.is_reached.Goals as goal
-
--- so many steps are left, one of which is this one
-one_less : (size step all : ℕ) → all ≡ size → step < all → size - step ≡ suc (size - (step + 1))
-one_less size step all is less = omega (arith, is, less)
-
-not_genesis : (hash genesis : Hash32) → genesis ≡ genesis_hash → false ≡ same_hash hash genesis → hash ≡ genesis_hash → ⊥
-not_genesis hash genesis is apart here =
-    let same : same_hash hash genesis ≡ true = ap (same_hash hash) (is ∙ sym here) ∙ same_self hash in
-    cc
 
 pub returns-then-eq : goal.returns-then-eq
 returns-then-eq c bodies e =

@@ -1,0 +1,10 @@
+mod BodyReads
+mod ChildCoins
+mod LeastChild
+mod MovedOver
+mod OpenChildren
+mod Quieting
+mod StoredBodies
+mod Tried
+mod TriedLayers
+mod Viewing

@@ -1,0 +1,4 @@
+pub mod Coins
+pub mod Passing
+pub mod Serving
+pub mod Taking

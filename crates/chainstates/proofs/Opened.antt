@@ -35,6 +35,7 @@ use Rattle.coin_views.specs.Layers as layers
 use Rattle.coin_views.specs.Layers.{LayersStand, block_of, tip_means}
 use Rattle.coin_views.specs.declared.layers.Layers.{Layers}
 use Rattle.machine.specs.State.{active_coins, begins}
+use Rattle.machine.specs.declared.report.Found.{Found}
 use Rattle.store_state.specs.Settled.{IsReplay, IsSettled}
 use Rattle.store_state.specs.State.{StoreState, StoredBody, Chainstate, choice_of, marker_after, state_of, tip_of_marker, first_rules}
 use Rattle.store_state.proofs.Appending.{HasLogs, tree_is_read}
@@ -50,6 +51,12 @@ last_of start first (next ∷ batches) = last_of start next batches
 pub same_marker : (start : Hash32) (batches : List Batch) → coins.marker_after (At start) batches ≡ marker_after start batches
 same_marker start [] = refl
 same_marker start (first ∷ batches) = last_of start first batches
+
+abbrev found : Marker → Hash32 → Found
+found marker tip = record { marker = marker; tip = tip }
+
+same_found : (m n : Marker) (t u : Hash32) → m ≡ n → t ≡ u → found m t ≡ found n u
+same_found m n t u markers tips = λ i. record { marker = markers i; tip = tips i }
 
 -- ---- the coins
 
@@ -96,11 +103,12 @@ module _ {D : Type 0} (time : D → ℕ) (left : D → ℕ → Image → Type 0)
 
   pub opens_session : (session : Session) → session.shared.tree.tree ≡ tree → session.shared.tree.limit ≡ limit → session.shared.blocks ≡ open_blocks → session.active.store ≡ open_coins
       → session.active.tip ≡ tip_of_marker (coins.marker_after open_coins.start has.rows.batches)
+      → coins.last_marker session.active.store.start session.active.store.markers.items ≡ coins.marker_after open_coins.start has.rows.batches
       → (layers.tip_of session.active.layers).slots ≡ empty → (block_of session.active.layers).slots ≡ empty
       → ((parent hash : Hash32) → waits session.active.waiting parent hash ≡ is_left_over tree.headers open_blocks.hashes session.active.tip parent hash)
       → OpensSession limit (left old) (left new) (time old) (time new) before (contents new) session
   unfolding store
-  opens_session session is_tree most is_blocks is_coins is_tip bottom top are =
+  opens_session session is_tree most is_blocks is_coins is_tip is_marker bottom top are =
       let told : contents new ≡ Some here.headers.holds.image = here.headers.holds.told in
       let first = stands_for before (record { headers = has.headers; bodies = has.bodies; coins = has.rows.rows }) in
       let files : OnDisk limit (contents new) (left new (time new)) open_blocks open_coins store = record {
@@ -115,7 +123,8 @@ module _ {D : Type 0} (time : D → ℕ) (left : D → ℕ → Image → Type 0)
         mask = has.rows.mask;
         no_base = has.rows.no_base;
       } in
-      let at = is_tip ∙ ap tip_of_marker (ap (λ (m : Marker). coins.marker_after m has.rows.batches) has.rows.start ∙ same_marker genesis_hash has.rows.batches) in
+      let last = ap (λ (m : Marker). coins.marker_after m has.rows.batches) has.rows.start ∙ same_marker genesis_hash has.rows.batches in
+      let at = is_tip ∙ ap tip_of_marker last in
       record {
         after = here.headers.holds.image;
         told = told;
@@ -141,4 +150,7 @@ module _ {D : Type 0} (time : D → ℕ) (left : D → ℕ → Image → Type 0)
             waiting = begins_waiting store settled open_blocks.hashes (named_by limit (contents new) (left new (time new)) open_blocks open_coins store files) session.active.waiting session.active.tip at are;
           };
         };
+        found =
+            same_found (coins.last_marker session.active.store.start session.active.store.markers.items) store.active.marker session.active.tip (tip_of_marker store.active.marker)
+            (is_marker ∙ last) at;
       }

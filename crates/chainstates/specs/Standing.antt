@@ -10,12 +10,22 @@ use Rattle.base_types.specs.declared.program.Limits.{Limits}
 use Rattle.base_types.specs.declared.program.Salt.{Salt}
 use Rattle.chain_state.specs.Standing.{IsStanding}
 use Rattle.chainstates.specs.declared.session.Session.{Session}
+use Rattle.coin_store.specs.Store.{last_marker}
+use Rattle.machine.specs.Answers.{found_of}
 use Rattle.machine.specs.Calls.{IsOpening, IsOpen}
+use Rattle.machine.specs.declared.report.Found.{Found}
 use Rattle.machine.specs.State.{State, active_coins, begins}
 use Rattle.machine.specs.Steps.{asked}
 use Rattle.store_state.specs.State.{StoreState, header_file, body_file, coin_file, first_rules}
 
--- the store was opened: the machine begins with what the contents stand for
+-- what an open session found: the last marker of its file of coins, and its tip
+abbrev pub found_in : Session → Found
+found_in session = record {
+  marker = last_marker session.active.store.start session.active.store.markers.items;
+  tip = session.active.tip;
+}
+
+-- the store was opened: the machine begins with what the contents stand for, and that is what was found
 pub record OpensSession (limit : ℕ) (past left : ℕ → Image → Type 0) (entered ended : ℕ) (contents : Image) (now : Option Image) (session : Session) : Type 0 where
   pub after : Image
   pub told : now ≡ Some after
@@ -23,6 +33,7 @@ pub record OpensSession (limit : ℕ) (past left : ℕ → Image → Type 0) (en
   pub opening : IsOpening limit first_rules past left (record { entered = entered; ended = ended; contents = contents; after = after; flushes = []; events = [] }) store store
   pub is_open : IsOpen limit first_rules (left ended) after store
   pub stands : IsStanding limit now (left ended) session.shared session.active (begins store) store
+  pub found : found_in session ≡ found_of store.active
 
 -- what the store was opened with
 pub record IsSetTo (limits : Limits) (salt : Salt) (session : Session) : Type 0 where

@@ -4,7 +4,7 @@ ghost use Rattle.std.specs.Prelude.{◌≡◌, ◌≤◌, ◌^◌, ℕ, List, tr
 ghost use Rattle.std.specs.FinMap as finite;
 ghost use Rattle.chain_model.specs.Tree.{height as height_of};
 ghost use Rattle.chainstates.specs.Opening.{BreaksIn, OpenFault};
-ghost use Rattle.chainstates.specs.Standing.{HasStoreFiles, OpensSession, IsSetTo};
+ghost use Rattle.chainstates.specs.Standing.{HasStoreFiles, OpensSession, IsSetTo, found_in};
 ghost use Rattle.machine.specs.Calls.{FailsToOpen};
 ghost use Rattle.store_state.specs.State.{first_rules};
 
@@ -15,6 +15,7 @@ use base_types::{Hash32, Limits, Salt, StoreFault};
 use chain_state::{ChainState, Shared};
 use coin_views::Layers;
 use disk_model::Disk;
+use machine::Found;
 use std::alloc::{AllocError, Global};
 
 /// A store that is open: its headers and bodies, and its chainstate.
@@ -72,6 +73,17 @@ impl Session {
                 },
             }),
             Err(AllocError) => Err(StoreFault::NoMemory),
+        }
+    }
+
+    /// What its opening found, while nothing was done since: the last marker of the file of coins, and the tip. It takes no
+    /// memory.
+    pub fn found(&self) -> Found
+        ensures { result ≡ found_in self.now }
+    {
+        Found {
+            marker: self.active.store.marker(),
+            tip: self.active.tip,
         }
     }
 

@@ -6,7 +6,7 @@ mod FlushWork
 mod HeaderWork
 mod ImportedFiles
 mod OneOffer
-mod PassSteps
+pub mod PassSteps
 pub mod QuietWork
 pub mod Telling
 mod Works

@@ -1,4 +1,4 @@
-use Rattle.std.proofs.Common.{◌∙◌, [], ap, refl}
+use Rattle.std.proofs.Common.{◌∙◌, [], ap, refl, sym}
 use Rattle.coin_cache.specs.Contents.{Contents}
 use Rattle.store_state.specs.State.{first_rules, tip_of_marker}
 use Rattle.chainstates.proofs.Breaks.{stops_break}
@@ -26,6 +26,7 @@ returns-in-Ok-find_waiting-clause-ok g c contents told =
     })
     refl c.in-Ok-read_files.ensures.limit refl refl
     (c.tip_of-tip.ensures ∙ ap tip_of_marker (c.marker.ensures.held [] has.rows.batches has.rows.coin_rows.knows))
+    (sym c.marker.ensures.last ∙ c.marker.ensures.held [] has.rows.batches has.rows.coin_rows.knows)
     (ap (λ (v : Contents). v.slots) c.new.ensures.tip) (ap (λ (v : Contents). v.slots) c.new.ensures.block) c.in-Ok-find_waiting.ensures
 
 pub returns-in-Err-find_waiting-clause-err : goal.returns-in-Err-find_waiting-clause-err

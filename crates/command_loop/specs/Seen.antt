@@ -23,6 +23,14 @@ IsOfRun status.HostFault = ⊥
 IsOfRun status.BadCommitments = ⊥
 IsOfRun other = Unit {0}
 
+-- those of a run that didn't open its store
+abbrev pub IsUnopened : Status → Type 0
+IsUnopened status.Usage = Unit {0}
+IsUnopened status.DiskFault = Unit {0}
+IsUnopened status.NoMemory = Unit {0}
+IsUnopened (status.Damaged file at) = Unit {0}
+IsUnopened other = ⊥
+
 -- what the disk, the input, the output and the host tell at a moment
 pub record Outside : Type 0 where
   pub time : ℕ

@@ -62,6 +62,12 @@ status_of_fault (fault.Damaged file at) = status.Damaged file at
 status_of_fault (fault.Full file) = status.Full file
 status_of_fault fault.CacheFull = status.CacheFull
 
+-- an opening finds no file and no cache full
+abbrev pub MayNotOpen : StoreFault → Type 0
+MayNotOpen (fault.Full file) = ⊥
+MayNotOpen fault.CacheFull = ⊥
+MayNotOpen other = Unit {0}
+
 -- a broken record, a full file and a full cache have a cause in what the disk reads as; a call of the disk counts its own
 -- faults, and want of memory is free
 abbrev pub IsCaused : (StoreFault → Image → Type 0) → Status → Image → Type 0

@@ -15,7 +15,7 @@ ghost use Rattle.machine.specs.declared.report.Opened.TheVariants.{Not};
 ghost use Rattle.command_loop.specs.declared.stop.Stop.TheVariants.{OnStore, OutFault};
 ghost use Rattle.command_loop.specs.Ending.{AnswersInput};
 ghost use Rattle.command_loop.specs.Points.{Point, IsOuter, At};
-ghost use Rattle.command_loop.specs.Seen.{IsSeen, IsOfRun, status_of_end};
+ghost use Rattle.command_loop.specs.Seen.{IsSeen, IsOfRun, IsUnopened, status_of_end};
 ghost use Rattle.command_loop.specs.ServerCalls.{setting_of, AreInRange, IsCaused, IsDamage, status_of_fault};
 ghost use Rattle.command_loop.specs.Service.{AnswersLast};
 
@@ -55,6 +55,7 @@ pub fn run_with<S: Server, D: Disk, H: Host, I: Source, O: Sink>(
     ensures disk_fault { result.status ≡ status.DiskFault → Rose (D.faults disk.old) (D.faults disk.new) }
     ensures in_fault { result.status ≡ status.InFault → Rose (I.faults input.old) (I.faults input.new) }
     ensures out_fault { result.status ≡ status.OutFault → Rose (O.faults out.old) (O.faults out.new) }
+    ensures before { result.opened ≡ Not → IsUnopened result.status }
     ensures damaged { result.opened ≡ Not → Told (D.contents disk.old) (IsDamage settings.now.limits.headers settings.now.rules result.status) }
     ensures caused { Told (D.contents disk.new) (IsCaused (S.causes settings.now) result.status) }
     ensures too_long { result.status ≡ status.TooLong → IfSome (I.left input.old) (λ bytes. 16777216 < length bytes) }

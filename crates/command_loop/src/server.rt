@@ -13,7 +13,7 @@ ghost use Rattle.machine.specs.Calls.{FailsToOpen};
 ghost use Rattle.machine.specs.State.{State};
 ghost use Rattle.machine.specs.Work.{AddsFlushes, Moment, IsMoment};
 ghost use Rattle.command_loop.specs.Points.{IsOpenAt};
-ghost use Rattle.command_loop.specs.ServerCalls.{setting_of, AreInRange, OpensStore, status_of_fault, IsCaused, IsDamage, WorkServed, WorkStopped, LineDoes, EndDoes};
+ghost use Rattle.command_loop.specs.ServerCalls.{setting_of, AreInRange, OpensStore, status_of_fault, IsCaused, IsDamage, MayNotOpen, WorkServed, WorkStopped, LineDoes, EndDoes};
 ghost use Rattle.command_loop.specs.declared.settings.RunSettings.{RunSettings as SettingsOfRun};
 
 use crate::settings::RunSettings;
@@ -61,6 +61,7 @@ pub trait Server: Drop {
         ensures damaged { Told (D.contents disk.old) (λ contents. IfErr result (λ fault. IsDamage settings.now.limits.headers settings.now.rules (status_of_fault fault) contents)) }
         ensures caused { Told (D.contents disk.new) (λ contents. IfErr result (λ fault. IsCaused (causes settings.now) (status_of_fault fault) contents)) }
         ensures failed { IfErr result (λ fault. fault ≡ DiskFailed → Rose (D.faults disk.old) (D.faults disk.new)) }
+        ensures unfilled { IfErr result MayNotOpen }
         ensures later { D.faults disk.old ≤ D.faults disk.new };
 
     /// Does what a line says, and adds the lines of its replies to `out`. None of its flushes is told yet.

@@ -1,7 +1,6 @@
 pub mod Adding
-pub mod AnsweredLines
+pub mod FileLines
 pub mod FoldingFiles
-pub mod Pieces
-pub mod Running
-pub mod ServingLines
-pub mod Ways
+pub mod HostWork
+pub mod LineCounts
+pub mod Serving

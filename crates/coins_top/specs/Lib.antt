@@ -1,6 +1,6 @@
 pub mod FileFolds
 pub mod FoldState
 pub mod Folds
+pub mod HostLines
 pub mod Run
-pub mod Serving
-pub mod Session
+pub mod ServerState

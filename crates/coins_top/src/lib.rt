@@ -1,16 +1,15 @@
 //! The top call: all that the program does, over an outside that is handed in.
 #![tactic(auto)]
 
-mod answering;
 mod file_fold;
 mod fold_end;
 mod folding;
-mod pending;
+mod host_lines;
 mod program;
-mod serving;
-mod stop;
+mod server;
 
 pub use base_types::{Limits, Salt, Status, Words};
+pub use machine::{Opened, Report};
 pub use program::run;
 
 #[cfg(test)]

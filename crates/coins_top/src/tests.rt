@@ -1,6 +1,10 @@
 //! Runs over small files, and runs that meet faults.
 
+ghost use Rattle.std.specs.Prelude.{◌≤◌};
+ghost use Rattle.disk_model.specs.MemDisk.{clock_of};
+
 use super::*;
+use disk_model::{Disk, MemDisk, Pick};
 use io_traits::{MemHost, MemSink, MemSource};
 use std::alloc::{AllocError, Global};
 use std::test::Fail;
@@ -38,36 +42,64 @@ const PAYS_ONE_TOO_MUCH: &str =
 const REPEATED_TRANSACTION: &str =
     "fabfb5da4f0100000000002006226e46111a0b59caaf126043eb5bbf28c34f3a5e332a1fc7b2b73cf188910f2b9e5dbe7496ef23d6092238ba82ad4950c1507ed0a95d87cbdab23cb323b70532e8494dffff7f20020000000402000000010000000000000000000000000000000000000000000000000000000000000000ffffffff0a51080200000000000000ffffffff0100f2052a01000000015100000000020000000111111111111111111111111111111111111111111111111111111111111111110000000000ffffffff010100000000000000015100000000020000000122222222222222222222222222222222222222222222222222222222222222220000000000ffffffff010100000000000000015100000000020000000122222222222222222222222222222222222222222222222222222222222222220000000000ffffffff010100000000000000015100000000";
 
-// What a run with these words ends with and writes, where these calls of the streams fail.
+// What the last flush of an empty store says.
+const FLUSHED: &[u8] =
+    b"flushed full 0 0f9188f13cb7b2c71f2a335e3a4fc328bf5beb436012afca590b1a11466e2206\n";
+
+// A run over these streams.
+fn run_over(
+    alloc: Global,
+    disk: &mut MemDisk,
+    files: &mut MemHost,
+    source: &mut MemSource,
+    sink: &mut MemSink,
+) -> Status {
+    let words = Words::new(alloc);
+    run(alloc, &words, disk, files, source, sink, &SALT, &LIMITS).status
+}
+
+// What a run ends with and writes, where these calls of the streams fail.
 fn outcome(
     alloc: Global,
-    words: &Words,
+    disk: &mut MemDisk,
     files: &mut MemHost,
     input: &[u8],
     source: &[u64],
     sink: &[u64],
 ) -> Result<(Status, MemSink), AllocError> {
     let mut source = MemSource::new(alloc, input, source)?;
-    let mut out = MemSink::new(alloc, sink)?;
-    let status = run(alloc, words, files, &mut source, &mut out, &SALT, &LIMITS);
-    Ok((status, out))
+    let mut sink = MemSink::new(alloc, sink)?;
+    let status = run_over(alloc, disk, files, &mut source, &mut sink);
+    Ok((status, sink))
 }
 
-// Whether a run over these files that meets no fault is done, and writes this.
+// Whether a run that meets no fault is done, and writes this.
 fn writes(
+    alloc: Global,
+    disk: &mut MemDisk,
+    files: &mut MemHost,
+    input: &[u8],
+    output: &[u8],
+) -> Result<bool, AllocError> {
+    let (status, out) = outcome(alloc, disk, files, input, &[], &[])?;
+    Ok(status == Status::Done && out.as_slice() == output)
+}
+
+// Whether a run over an empty store and these files that meets no fault writes this, and then that nothing is flushed.
+fn answers(
     alloc: Global,
     files: &mut MemHost,
     input: &[u8],
     output: &[u8],
 ) -> Result<bool, AllocError> {
-    let (status, out) = outcome(alloc, &Words::new(alloc), files, input, &[], &[])?;
-    Ok(status == Status::Done && out.as_slice() == output)
+    let (status, out) = outcome(alloc, &mut MemDisk::new(alloc), files, input, &[], &[])?;
+    Ok(status == Status::Done && out.as_slice().strip_suffix(FLUSHED) == Some(output))
 }
 
 // The number of the first input that isn't answered so on a host without files, or the number of rows.
 fn first_wrong_lines(alloc: Global, rows: &[(&[u8], &[u8])]) -> Result<usize, AllocError> {
     for (number, (input, output)) in rows.iter().enumerate() {
-        if !writes(alloc, &mut MemHost::new(alloc, &[])?, input, output)? {
+        if !answers(alloc, &mut MemHost::new(alloc, &[])?, input, output)? {
             return Ok(number);
         }
     }
@@ -107,7 +139,7 @@ fn first_wrong_folds(alloc: Global, rows: &[(&[&str], &[u8])]) -> Result<usize, 
     for (number, (frames, reply)) in rows.iter().enumerate() {
         let mut files = MemHost::new(alloc, &[])?;
         files.put("a.dat", &joined(alloc, frames)?)?;
-        if !writes(alloc, &mut files, b"fold a.dat\n", reply)? {
+        if !answers(alloc, &mut files, b"fold a.dat\n", reply)? {
             return Ok(number);
         }
     }
@@ -161,10 +193,12 @@ struct Faulty<'a> {
 
 // The number of the first run that doesn't end so, or the number of rows.
 fn first_wrong_faults(alloc: Global, rows: &[Faulty<'_>]) -> Result<usize, AllocError> {
-    let words = Words::new(alloc);
     for (number, row) in rows.iter().enumerate() {
         let mut files = MemHost::new(alloc, row.host)?;
-        let (status, out) = outcome(alloc, &words, &mut files, row.input, row.source, row.sink)?;
+        let mut disk = MemDisk::new(alloc);
+        let (status, out) = outcome(
+            alloc, &mut disk, &mut files, row.input, row.source, row.sink,
+        )?;
         if status != row.status || out.as_slice() != row.output {
             return Ok(number);
         }
@@ -182,7 +216,7 @@ fn faults_are_told(rt: HostRuntime) -> Result<(), Fail> {
             sink: &[],
             input: b"generate 1 1 a.dat",
             status: Status::Done,
-            output: b"refused host-fault\n",
+            output: b"refused host-fault\nflushed full 0 0f9188f13cb7b2c71f2a335e3a4fc328bf5beb436012afca590b1a11466e2206\n",
         },
         Faulty {
             host: &[],
@@ -202,5 +236,93 @@ fn faults_are_told(rt: HostRuntime) -> Result<(), Fail> {
         },
     ];
     assert_eq!(rt; first_wrong_faults(rt.alloc(), &rows)?, 3);
+    Ok(())
+}
+
+// A chain of two blocks is made and imported.
+const IMPORT: &[u8] = b"generate 2 2 a.dat\nimport a.dat\n";
+
+const IMPORTED: &[u8] =
+    b"generated 2 0d1a5a730c31c30310b19dbadbbacab667b163e0b6431297944d26d157eafcab\nimport 2 2 2 2 0d1a5a730c31c30310b19dbadbbacab667b163e0b6431297944d26d157eafcab\nflushed full 2 0d1a5a730c31c30310b19dbadbbacab667b163e0b6431297944d26d157eafcab\n";
+
+// What its last flush says.
+const LAST: &[u8] =
+    b"flushed full 2 0d1a5a730c31c30310b19dbadbbacab667b163e0b6431297944d26d157eafcab\n";
+
+// Its first coin is asked for, and where the store stands.
+const ASKED: &[u8] =
+    b"gettxout 40c72cb25d6570b6c14e573c3656b717b82aea2fa45d2d7de3f55c87d04de2df 0\nflush\ninfo\n";
+
+const ANSWERED: &[u8] =
+    b"{\"bestblock\":\"0d1a5a730c31c30310b19dbadbbacab667b163e0b6431297944d26d157eafcab\",\"coinbase\":true,\"confirmations\":2,\"height\":1,\"script\":\"51\",\"value\":5000000000}\nflushed full 2 0d1a5a730c31c30310b19dbadbbacab667b163e0b6431297944d26d157eafcab\n{\"background\":null,\"chain\":\"regtest\",\"headers\":3,\"height\":2,\"role\":\"full\",\"tip\":\"0d1a5a730c31c30310b19dbadbbacab667b163e0b6431297944d26d157eafcab\"}\nflushed full 2 0d1a5a730c31c30310b19dbadbbacab667b163e0b6431297944d26d157eafcab\n";
+
+// A store that one run filled is opened by the next.
+#[test]
+fn a_store_is_kept(rt: HostRuntime) -> Result<(), Fail> {
+    let alloc = rt.alloc();
+    let mut disk = MemDisk::new(alloc);
+    let mut files = MemHost::new(alloc, &[])?;
+    assert!(rt; writes(alloc, &mut disk, &mut files, IMPORT, IMPORTED)?);
+    assert!(rt; writes(alloc, &mut disk, &mut files, ASKED, ANSWERED)?);
+    Ok(())
+}
+
+// Whether a run over what a crash left of a disk is done, at genesis or at the block of the last flush.
+fn opens_again(alloc: Global, disk: &MemDisk, moment: u64, pick: Pick) -> Result<bool, AllocError>
+    requires { moment ≤ clock_of disk.now }
+{
+    let mut left = disk.after_crash(moment, pick)?;
+    let mut files = MemHost::new(alloc, &[])?;
+    let (status, out) = outcome(alloc, &mut left, &mut files, b"", &[], &[])?;
+    let text = out.as_slice();
+    Ok(status == Status::Done && (text == FLUSHED || IMPORTED.ends_with(text)))
+}
+
+// The first reading of the clock at which a crash leaves a store that isn't opened so, or its last reading.
+fn first_wrong_crash(alloc: Global, disk: &MemDisk) -> Result<u64, AllocError> {
+    let end = disk.clock();
+    for moment in 0..end {
+        for pick in [Pick::Old, Pick::New, Pick::Fill(255)] {
+            if !opens_again(alloc, disk, moment, pick)? {
+                return Ok(moment);
+            }
+        }
+    }
+    Ok(end)
+}
+
+// Whether a run is ended by the failure of this device call, and the next one is done. Bodies that were stored before wait
+// above the tip, which moves with the next body that is stored.
+fn goes_on(alloc: Global, call: u64) -> Result<bool, AllocError> {
+    let mut disk = MemDisk::new(alloc);
+    disk.fail_at(&[call])?;
+    let mut files = MemHost::new(alloc, &[])?;
+    let (status, _) = outcome(alloc, &mut disk, &mut files, IMPORT, &[], &[])?;
+    let (next, out) = outcome(alloc, &mut disk, &mut files, IMPORT, &[], &[])?;
+    let text = out.as_slice();
+    let is_last = text.ends_with(LAST) || text.ends_with(FLUSHED);
+    Ok(status == Status::DiskFault && next == Status::Done && is_last)
+}
+
+// The first device call whose failure doesn't end a run so, or the number of calls.
+fn first_wrong_failure(alloc: Global, calls: u64) -> Result<u64, AllocError> {
+    for call in 1..calls {
+        if !goes_on(alloc, call)? {
+            return Ok(call);
+        }
+    }
+    Ok(calls)
+}
+
+// A run that is cut by a crash at any moment, or by the failure of any device call.
+#[test]
+fn cut_runs_are_gone_on_with(rt: HostRuntime) -> Result<(), Fail> {
+    let alloc = rt.alloc();
+    let mut disk = MemDisk::new(alloc);
+    let mut files = MemHost::new(alloc, &[])?;
+    assert!(rt; writes(alloc, &mut disk, &mut files, IMPORT, IMPORTED)?);
+    let calls = disk.clock();
+    assert_eq!(rt; first_wrong_crash(alloc, &disk)?, calls);
+    assert_eq!(rt; first_wrong_failure(alloc, calls)?, calls);
     Ok(())
 }

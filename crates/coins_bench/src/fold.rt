@@ -7,6 +7,7 @@ use base_types::{Limits, Salt, Words};
 use block_codec::{Block, block_hash, txid};
 use chain_gen::generate;
 use coins_top::run;
+use disk_model::MemDisk;
 use frame_scan::Frames;
 use io_traits::{Host, MemHost, MemSink, MemSource};
 use merkle::root_in_place;
@@ -59,7 +60,8 @@ fn fold(
     input: &mut MemSource,
     out: &mut MemSink,
 ) {
-    run(alloc, words, host, input, out, &SALT, &LIMITS);
+    let mut disk = MemDisk::new(alloc);
+    run(alloc, words, &mut disk, host, input, out, &SALT, &LIMITS);
 }
 
 // The file with a chain of so many blocks.

@@ -1,4 +1,4 @@
-//! The program `coinsd`: it makes the real streams and host files, and hands them to the top call.
+//! The program `coinsd`: it makes the real disk, streams and host files, and hands them to the top call.
 #![tactic(auto)]
 
 mod files;
@@ -6,7 +6,10 @@ mod folder;
 mod streams;
 
 use coins_top::{Limits, Salt, Status, Words, run};
+use disk_model::UntoldDisk;
+use file_disk::{FolderFiles, Trouble};
 use files::SystemFiles;
+use folder::SystemFolder;
 use io_traits::{UntoldHost, UntoldSink, UntoldSource};
 use std::env;
 use std::fs::File;
@@ -19,6 +22,9 @@ const LIMITS: Limits = Limits {
     file_bytes: 68_719_476_736,
     headers: 4_194_304,
 };
+
+/// The folder of the store, in that where the program is called.
+const FOLDER: &str = "regtest";
 
 // The words of the command line, or the status for what they can't be.
 fn words_of(rt: &HostRuntime) -> Result<Words, Status> {
@@ -51,25 +57,50 @@ fn salt(rt: &HostRuntime) -> Salt {
     }
 }
 
-fn status_of(rt: &HostRuntime) -> Status {
-    let words = match words_of(rt) {
-        Ok(words) => words,
-        Err(status) => return status,
+// Says what went wrong at the store. Where standard error can't be written to, the status says enough.
+fn tell_trouble(rt: &HostRuntime, trouble: &Trouble) {
+    let _ = eprintln!(rt; "coinsd: {FOLDER}: {trouble}");
+}
+
+// Runs over the store in the folder, and says how that ended.
+fn run_in_folder(rt: &HostRuntime, words: &Words) -> Status {
+    let folder = SystemFolder::new(rt, rt.alloc(), ".", FOLDER);
+    let files = match FolderFiles::open(rt.alloc(), folder) {
+        Ok(files) => files,
+        Err(trouble) => {
+            tell_trouble(rt, &trouble);
+            return Status::DiskFault;
+        }
     };
+    let mut disk = UntoldDisk::new(files);
     let mut host = UntoldHost::new(SystemFiles { system: rt });
     let mut input = UntoldSource::new(Reading { reader: rt.stdin() });
     let mut out = UntoldSink::new(Writing {
         writer: rt.stdout(),
     });
-    run(
+    let report = run(
         rt.alloc(),
-        &words,
+        words,
+        &mut disk,
         &mut host,
         &mut input,
         &mut out,
         &salt(rt),
         &LIMITS,
-    )
+    );
+    if let Some(trouble) = disk.into_inner().trouble() {
+        tell_trouble(rt, trouble);
+    }
+    report.status
+}
+
+fn status_of(rt: &HostRuntime) -> Status {
+    match words_of(rt) {
+        // Other words are refused before a folder is made for them.
+        Ok(words) if words.is_empty() => run_in_folder(rt, &words),
+        Ok(_) => Status::Usage,
+        Err(status) => status,
+    }
 }
 
 fn main(rt: HostRuntime) -> ExitCode {

@@ -3,6 +3,7 @@
 #![tactic(auto)]
 
 mod blocks;
+mod files;
 mod fold;
 mod headers;
 mod index;
@@ -17,7 +18,7 @@ use anyhow::{Result, bail};
 use std::env;
 
 const USAGE: &str =
-    "usage: coins_bench make-blocks FILE COUNT | read-blocks FILE | accept-headers COUNT | index COUNT | fill-index COUNT | snapshot COUNT | fold COUNT | scan COUNT CLAIM";
+    "usage: coins_bench make-blocks FILE COUNT | read-blocks FILE | accept-headers COUNT | index COUNT | fill-index COUNT | snapshot COUNT | fold COUNT | scan COUNT CLAIM | append FILE COUNT LENGTH | read-store HEADERS BODIES COINS";
 
 // The number in a word.
 fn count_of(word: Option<String>) -> Result<u32> {
@@ -58,6 +59,17 @@ fn main(rt: HostRuntime) -> Result<()> {
         "scan" => {
             let count = count_of(words.next())?;
             scan::measure(&rt, count, count_of(words.next())?)
+        }
+        "append" => {
+            let file = name_of(words.next())?;
+            let count = count_of(words.next())?;
+            files::append_all(&rt, file.as_str(), count, count_of(words.next())?)
+        }
+        "read-store" => {
+            let headers = name_of(words.next())?;
+            let bodies = name_of(words.next())?;
+            let coins = name_of(words.next())?;
+            files::read_all(&rt, headers.as_str(), bodies.as_str(), coins.as_str())
         }
         _ => bail!("{USAGE}"),
     }

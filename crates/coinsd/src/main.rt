@@ -103,12 +103,21 @@ fn status_of(rt: &HostRuntime) -> Status {
     }
 }
 
+// Says what a status doesn't: which words are taken, and where the store is broken or full.
+fn tell_status(rt: &HostRuntime, status: Status) {
+    let _ = match status {
+        Status::Usage => eprintln!(rt; "usage: coinsd"),
+        Status::Damaged { file, at } => {
+            eprintln!(rt; "coinsd: {FOLDER}: file {file} is broken at byte {at}")
+        }
+        Status::Full { file } => eprintln!(rt; "coinsd: {FOLDER}: file {file} is full"),
+        _ => Ok(()),
+    };
+}
+
 fn main(rt: HostRuntime) -> ExitCode {
     let status = status_of(&rt);
-    if status == Status::Usage {
-        // Where standard error can't be written to, the status says enough.
-        let _ = eprintln!(rt; "usage: coinsd");
-    }
+    tell_status(&rt, status);
     ExitCode::from(status.number())
 }
 
